@@ -1,0 +1,114 @@
+-- A check passes exactly where the fields are in range. Assumes nothing.
+use mathlib.Core.Path.{_≡_, refl, sym, _∙_, ap}
+use mathlib.Core.Logic.{_⊎_, inl, inr, ⊎-elim}
+use mathlib.Core.Bool.{Bool, true, false}
+use Prim.Native.Nat.{ℕ, zero, suc, _+_, _%_, _≤_, _<_}
+use native.Mathlib.Decide.{decLe}
+use native.Mathlib.Omega.{arith}
+use lib.Arith.{le-zero}
+use lib.Dec.{leb, eqb}
+use borrow.Author.Tests.{leb-true, eqb-true, le-leb}
+use Rattle.line.specs.declared.Line.{Line}
+use Rattle.line.specs.Refusals.{Outcome, passed, need, _▹_}
+use Rattle.line.specs.Checks.{_&_, within, startOutcome, headOutcome, distanceOutcome, curveOutcome, distanceAt, curveAt, bodyOutcome, lineOutcome}
+use Rattle.line.specs.Ranges.{CurveInRange, LineInRange}
+use Rattle.line.proofs.Outcomes.{passed-left, passed-right, need-holds, both-left, both-right}
+
+within-least : (least most x : ℕ) → within least most x ≡ true → least ≤ x
+within-least least most x e = leb-true least x (both-left _ (leb x most) e)
+
+within-most : (least most x : ℕ) → within least most x ≡ true → x ≤ most
+within-most least most x e = leb-true x most (both-right (leb least x) _ e)
+
+-- ---- a curve
+
+pub curve-in-range : (A R L place : ℕ) → curveOutcome A R L place ≡ passed → CurveInRange A R L
+unfolding curveOutcome
+curve-in-range A R L place h =
+    let a = need-holds _ 9 place (passed-left (need (within 1 432000 A) 9 place) _ h) in
+    let h₁ = passed-right (need (within 1 432000 A) 9 place) _ h in
+    let r = need-holds _ 10 place (passed-left (need (within 20000 5000000 R) 10 place) _ h₁) in
+    let l = need-holds (leb L 500000 & leb L R) 11 place (passed-right (need (within 20000 5000000 R) 10 place) _ h₁) in
+    record
+      { A-least = within-least 1 432000 A a
+      ; A-most = within-most 1 432000 A a
+      ; R-least = within-least 20000 5000000 R r
+      ; R-most = within-most 20000 5000000 R r
+      ; L-most = leb-true L 500000 (both-left _ (leb L R) l)
+      ; L-to-R = leb-true L R (both-right (leb L 500000) _ l)
+      }
+
+pub curve-passes : (A R L place : ℕ) → CurveInRange A R L → curveOutcome A R L place ≡ passed
+unfolding curveOutcome
+curve-passes A R L place k =
+    rw
+      ( le-leb 1 A (k .A-least)
+      , le-leb A 432000 (k .A-most)
+      , le-leb 20000 R (k .R-least)
+      , le-leb R 5000000 (k .R-most)
+      , le-leb L 500000 (k .L-most)
+      , le-leb L R (k .L-to-R))
+
+-- ---- the distances and curves of a line
+
+body-below : (l : Line) (i k : ℕ) → k ≤ i → bodyOutcome l i ≡ passed → bodyOutcome l k ≡ passed
+unfolding bodyOutcome
+body-below l zero k h e = rw (le-zero h) e
+body-below l (suc i) k h e =
+    ⊎-elim (λ m. body-below l i k m (passed-left (bodyOutcome l i) _ e)) (λ m. rw m e) (le-split k i h)
+  where
+    le-split : (k i : ℕ) → k ≤ suc i → (k ≤ i) ⊎ (k ≡ suc i)
+    le-split k i h = go (decLe k i)
+      where
+        go : Dec (k ≤ i) → (k ≤ i) ⊎ (k ≡ suc i)
+        go (yes m) = inl m
+        go (no m) = inr (omega arith)
+
+-- The distance of the last entry of a body that passes, and the curve before it.
+last-distance : (l : Line) (i : ℕ) → bodyOutcome l i ≡ passed → within 1 20000000 (distanceAt l i) ≡ true
+unfolding bodyOutcome distanceOutcome
+last-distance l zero e = need-holds _ 8 0 e
+last-distance l (suc i) e =
+    let c = curveAt l i in
+    need-holds _ 8 (suc i)
+    (passed-right (curveOutcome (c .deflection) (c .radius) (c .spiral) (suc i)) _ (passed-right (bodyOutcome l i) _ e))
+
+last-curve : (l : Line) (i : ℕ) → bodyOutcome l (suc i) ≡ passed
+    → CurveInRange (curveAt l i .deflection) (curveAt l i .radius) (curveAt l i .spiral)
+unfolding bodyOutcome
+last-curve l i e =
+    let c = curveAt l i in
+    curve-in-range _ _ _ (suc i)
+    (passed-left (curveOutcome (c .deflection) (c .radius) (c .spiral) (suc i)) _ (passed-right (bodyOutcome l i) _ e))
+
+-- ---- the head, and a whole line
+
+pub few-curves : (n v e s : ℕ) → headOutcome n v e s ≡ passed → n ≤ 64
+unfolding headOutcome
+few-curves n v e s h = leb-true n 64 (need-holds _ 3 0 (passed-left (need (leb n 64) 3 0) _ h))
+
+pub line-in-range : (l : Line) → lineOutcome l ≡ passed → LineInRange l
+unfolding lineOutcome headOutcome startOutcome
+line-in-range l h =
+    let n = l .count in
+    let v = l .speed in
+    let e = l .crossfall in
+    let head = passed-left (headOutcome n v e (l .start)) _ h in
+    let body = passed-right (headOutcome n v e (l .start)) (bodyOutcome l n) h in
+    let h₁ = passed-right (need (leb n 64) 3 0) _ head in
+    let speed = need-holds (within 40 120 v & eqb (v % 10) 0) 4 0 (passed-left (need (within 40 120 v & eqb (v % 10) 0) 4 0) _ h₁) in
+    let h₂ = passed-right (need (within 40 120 v & eqb (v % 10) 0) 4 0) _ h₁ in
+    let fall = need-holds (within 2 12 e) 5 0 (passed-left (need (within 2 12 e) 5 0) _ h₂) in
+    let start = need-holds (leb (l .start) 200000000) 6 0 (passed-right (need (within 2 12 e) 5 0) _ h₂) in
+    record
+      { few = few-curves n v e (l .start) head
+      ; speed-least = within-least 40 120 v (both-left _ (eqb (v % 10) 0) speed)
+      ; speed-most = within-most 40 120 v (both-left _ (eqb (v % 10) 0) speed)
+      ; speed-tens = eqb-true (v % 10) 0 (both-right (within 40 120 v) _ speed)
+      ; crossfall-least = within-least 2 12 e fall
+      ; crossfall-most = within-most 2 12 e fall
+      ; start-most = leb-true (l .start) 200000000 start
+      ; distance-least = λ i m. within-least 1 20000000 (distanceAt l i) (last-distance l i (body-below l n i m body))
+      ; distance-most = λ i m. within-most 1 20000000 (distanceAt l i) (last-distance l i (body-below l n i m body))
+      ; curve = λ i m. last-curve l i (body-below l n (suc i) m body)
+      }

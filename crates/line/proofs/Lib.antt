@@ -1,0 +1,4 @@
+-- Laws of the checks.
+pub mod Outcomes
+pub mod InRange
+pub mod Unused

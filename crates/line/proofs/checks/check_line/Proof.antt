@@ -1,0 +1,44 @@
+use mathlib.Core.Path.{sym, _∙_, ap}
+use Rattle.line.specs.Refusals.{outcomeOf}
+use Rattle.line.specs.Checks.{lineOutcome}
+use Rattle.line.proofs.Outcomes.{refused-first, passed-first}
+use Rattle.line.proofs.InRange.{few-curves}
+use borrow.Author.Needs.{needs}
+use Rattle.line.proofs.checks.check_line.Statement.{statement}
+use Rattle.line.proofs.checks.check_line.Tie as tie
+use Rattle.line.proofs.checks.check_line.Reads as reads
+use Rattle.line.proofs.checks.check_line.Lts as lts
+use Rattle.line.proofs.checks.check_body.Reads as check-body-reads
+use Rattle.line.proofs.checks.check_head.Reads as check-head-reads
+
+-- src/checks.rt:91:9
+check-head-requires : tie.Need-check-head-requires
+check-head-requires c κs = search needs
+
+enum-told : tie.Need-enum-told
+enum-told c = search needs
+
+-- src/checks.rt:93:9
+enum-told-2 : tie.Need-enum-told-2
+enum-told-2 c = search needs
+
+-- src/checks.rt:93:9
+returns : tie.Need-returns
+unfolding lineOutcome
+returns c = refused-first _ _ _ (c .enum-told2 .given .1) (c .before .before .check-head .ensures)
+
+-- src/checks.rt:95:5
+check-body-requires : tie.Need-check-body-requires
+check-body-requires c κs =
+    few-curves _ _ _ _ (sym (c .before .before .check-head .ensures) ∙ ap outcomeOf (c .enum-told .given .1))
+
+-- src/checks.rt:88:1
+returns-2 : tie.Need-returns-2
+unfolding lineOutcome
+returns-2 c =
+    c .check-body .ensures ∙ passed-first _ _ _ (c .before .enum-told .given .1) (c .before .before .before .check-head .ensures)
+
+pub check-line-spec : {M : Type 1} → statement M
+check-line-spec =
+    tie.close
+    (tie.spec check-head-requires enum-told enum-told-2 returns check-body-requires returns-2)

@@ -1,0 +1,63 @@
+-- The checks of a line's fields, in the words and the order of document 01: "The line", "Refusal table" and "Order".
+use mathlib.Core.Bool.{Bool, true, false}
+use Prim.Native.Nat.{ℕ, zero, suc, _%_}
+use lib.Dec.{leb, eqb}
+use lib.ListN.{getD}
+use Rattle.line.specs.declared.Curve.{Curve}
+use Rattle.line.specs.declared.Line.{Line}
+use Rattle.line.specs.Refusals.{Outcome, need, _▹_}
+
+-- Both tests hold.
+infixr 30 _&_
+abbrev pub _&_ : Bool → Bool → Bool
+true & b = b
+false & b = false
+
+-- `least` to `most`, both included.
+abbrev pub within : ℕ → ℕ → ℕ → Bool
+within least most x = leb least x & leb x most
+
+-- 6: "start station, 0 to 200,000,000 mm"
+unfoldable pub startOutcome : ℕ → Outcome
+startOutcome start = need (leb start 200000000) 6 0
+
+-- 3 to 6: "n curves (0 to 64)", V "40, 50, .. 120 only", e "2 to 12", the start
+unfoldable pub headOutcome : ℕ → ℕ → ℕ → ℕ → Outcome
+headOutcome count speed crossfall start =
+    need (leb count 64) 3 0
+    ▹ need (within 40 120 speed & eqb (speed % 10) 0) 4 0
+    ▹ need (within 2 12 crossfall) 5 0
+    ▹ startOutcome start
+
+-- 8: "1 to 20,000,000 mm"
+unfoldable pub distanceOutcome : ℕ → ℕ → Outcome
+distanceOutcome distance index = need (within 1 20000000 distance) 8 index
+
+-- 9, 10, 11 within a curve: A "1 to 432,000 seconds", R "20,000 to 5,000,000 mm", L "0 to 500,000 mm and at most R"
+unfoldable pub curveOutcome : ℕ → ℕ → ℕ → ℕ → Outcome
+curveOutcome A R L place =
+    need (within 1 432000 A) 9 place
+    ▹ need (within 20000 5000000 R) 10 place
+    ▹ need (leb L 500000 & leb L R) 11 place
+
+-- The distance of an index, 0 to n.
+abbrev pub distanceAt : Line → ℕ → ℕ
+distanceAt line i = getD (line .distances) i 0
+
+-- The curve at an entry: entry i holds curve i + 1.
+abbrev pub curveAt : Line → ℕ → Curve
+curveAt line i = getD (line .curves) i (record { left = false; deflection = 0; radius = 0; spiral = 0 })
+
+-- "8 to 11 in sheet order": distance 0, curve 1, distance 1, .. up to curve i and distance i
+unfoldable pub bodyOutcome : Line → ℕ → Outcome
+bodyOutcome line zero = distanceOutcome (distanceAt line 0) 0
+bodyOutcome line (suc i) =
+    bodyOutcome line i
+    ▹ curveOutcome (curveAt line i .deflection) (curveAt line i .radius) (curveAt line i .spiral) (suc i)
+    ▹ distanceOutcome (distanceAt line (suc i)) (suc i)
+
+-- The first refusal of a line's fields: "3 to 6, 8 to 11 likewise"
+unfoldable pub lineOutcome : Line → Outcome
+lineOutcome line =
+    headOutcome (line .count) (line .speed) (line .crossfall) (line .start)
+    ▹ bodyOutcome line (line .count)

@@ -1,0 +1,96 @@
+// The checks of a line's fields: refusals 3 to 6, then 8 to 11 in sheet order.
+ghost use mathlib.Core.Path.{_≡_};
+ghost use Prim.Native.Nat.{_≤_};
+ghost use Rattle.line.specs.Refusals.{outcomeOf, _▹_};
+ghost use Rattle.line.specs.Checks.{_&_, within, startOutcome, headOutcome, distanceOutcome, curveOutcome, bodyOutcome, lineOutcome};
+use crate::refusals::{first, must, Refusal, Verdict};
+use crate::{Curve, Line};
+
+// `least` to `most`, both included.
+fn between(least: u32, most: u32, x: u32) -> bool
+    ensures { λ r. ⌜ r ≡ within least most x ⌝ }
+{
+    if x < least { false } else { x <= most }
+}
+
+fn both(a: bool, b: bool) -> bool
+    ensures { λ r. ⌜ r ≡ a & b ⌝ }
+{
+    if a { b } else { false }
+}
+
+// Refusal 6: the start station, in mm.
+fn check_start(start: u32) -> Verdict
+    ensures { λ r. ⌜ outcomeOf r ≡ startOutcome start ⌝ }
+{
+    must(start <= 200000000, Refusal::Start)
+}
+
+// The first of refusals 3 to 6: the number of curves, the design speed in km/h, the crossfall in
+// percent and the start station in mm.
+pub fn check_head(count: usize, speed: u32, crossfall: u32, start: u32) -> Verdict
+    ensures { λ r. ⌜ outcomeOf r ≡ headOutcome count speed crossfall start ⌝ }
+{
+    let n = must(count <= 64, Refusal::CurveCount);
+    let v = must(both(between(40, 120, speed), speed % 10 == 0), Refusal::Speed);
+    let e = must(between(2, 12, crossfall), Refusal::Crossfall);
+    let s = check_start(start);
+    first(n, first(v, first(e, s)))
+}
+
+// Refusal 8: the distance of an index, in mm.
+pub fn check_distance(distance: u32, index: u16) -> Verdict
+    ensures { λ r. ⌜ outcomeOf r ≡ distanceOutcome distance index ⌝ }
+{
+    must(between(1, 20000000, distance), Refusal::Distance(index))
+}
+
+// The first of refusals 9 to 11: a curve's deflection in seconds of arc, its radius and its spiral
+// in mm. `place` is the curve's number, or 0 for a curve of no line.
+pub fn check_curve(deflection: u32, radius: u32, spiral: u32, place: u16) -> Verdict
+    ensures { λ r. ⌜ outcomeOf r ≡ curveOutcome deflection radius spiral place ⌝ }
+{
+    let a = must(between(1, 432000, deflection), Refusal::Deflection(place));
+    let r = must(between(20000, 5000000, radius), Refusal::Radius(place));
+    let l = must(both(spiral <= 500000, spiral <= radius), Refusal::Spiral(place));
+    first(a, first(r, l))
+}
+
+// A curve and the distance after it, which have the same place.
+fn check_entry(curve: Curve, distance: u32, place: u16) -> Verdict
+    ensures { λ r. ⌜ outcomeOf r ≡ (curveOutcome (curve .deflection) (curve .radius) (curve .spiral) place ▹ distanceOutcome distance place) ⌝ }
+{
+    let c = check_curve(curve.deflection, curve.radius, curve.spiral, place);
+    let d = check_distance(distance, place);
+    first(c, d)
+}
+
+// The first of refusals 8 to 11, in sheet order: distance 0, curve 1, distance 1, ..
+fn check_body(line: Line) -> Verdict
+    requires { ⌜ line .count ≤ 64 ⌝ }
+    ensures { λ r. ⌜ outcomeOf r ≡ bodyOutcome line (line .count) ⌝ }
+{
+    let n = line.count;
+    let d0 = line.distances[0];
+    let mut verdict = check_distance(d0, 0);
+    let mut i = 0;
+    while i < n {
+        let curve = line.curves[i];
+        let distance = line.distances[i + 1];
+        let entry = check_entry(curve, distance, (i + 1) as u16);
+        verdict = first(verdict, entry);
+        i += 1;
+    }
+    verdict
+}
+
+// The first refusal of a line's fields: 3 to 6, then 8 to 11 in sheet order. Unused entries are ignored.
+pub fn check_line(line: Line) -> Verdict
+    ensures { λ r. ⌜ outcomeOf r ≡ lineOutcome line ⌝ }
+{
+    let head = check_head(line.count, line.speed, line.crossfall, line.start);
+    let Verdict::Pass = head else {
+        return head;
+    };
+    check_body(line)
+}

@@ -1,0 +1,116 @@
+// The refusals of document 01's table, by name, and the verdict of a check.
+ghost use mathlib.Core.Path.{_≡_};
+ghost use Rattle.line.specs.Refusals.{numberOf, placeOf, outcomeOf, need, _▹_};
+
+// A refusal with its place: the index of a distance (0 to n), the number of a curve (1 to n), or none.
+pub enum Refusal {
+    // 1: too few bytes.
+    Truncated,
+    // 2: the edition is not one that can be read.
+    Edition,
+    // 3: too many curves.
+    CurveCount,
+    // 4: not a design speed.
+    Speed,
+    // 5: the crossfall is out of range.
+    Crossfall,
+    // 6: the start is out of range.
+    Start,
+    // 7: too many bytes, or a fill bit is set.
+    Trailing,
+    // 8: the distance is out of range.
+    Distance(u16),
+    // 9: the deflection is out of range.
+    Deflection(u16),
+    // 10: the radius is out of range.
+    Radius(u16),
+    // 11: the spiral is out of range, or longer than the radius.
+    Spiral(u16),
+    // 12: the radius is below the least one for the design speed.
+    LeastRadius(u16),
+    // 13: the spiral is below the least one for the design speed.
+    LeastSpiral(u16),
+    // 14: the arc is under 1,000 µm.
+    ShortArc(u16),
+    // 15: the straight is under 1,000 µm.
+    ShortStraight(u16),
+    // 16: the caller's buffer is too small.
+    SmallBuffer,
+}
+
+// What a check says.
+pub enum Verdict {
+    Pass,
+    Refused(Refusal),
+}
+
+impl Refusal {
+    // The number in document 01's table.
+    pub fn number(self) -> u8
+        ensures { λ r. ⌜ r ≡ numberOf self ⌝ }
+    {
+        match self {
+            Refusal::Truncated => 1,
+            Refusal::Edition => 2,
+            Refusal::CurveCount => 3,
+            Refusal::Speed => 4,
+            Refusal::Crossfall => 5,
+            Refusal::Start => 6,
+            Refusal::Trailing => 7,
+            Refusal::Distance(_) => 8,
+            Refusal::Deflection(_) => 9,
+            Refusal::Radius(_) => 10,
+            Refusal::Spiral(_) => 11,
+            Refusal::LeastRadius(_) => 12,
+            Refusal::LeastSpiral(_) => 13,
+            Refusal::ShortArc(_) => 14,
+            Refusal::ShortStraight(_) => 15,
+            Refusal::SmallBuffer => 16,
+        }
+    }
+
+    // The place: a distance's index, a curve's number, or 0.
+    pub fn place(self) -> u16
+        ensures { λ r. ⌜ r ≡ placeOf self ⌝ }
+    {
+        match self {
+            Refusal::Truncated => 0,
+            Refusal::Edition => 0,
+            Refusal::CurveCount => 0,
+            Refusal::Speed => 0,
+            Refusal::Crossfall => 0,
+            Refusal::Start => 0,
+            Refusal::Trailing => 0,
+            Refusal::Distance(index) => index,
+            Refusal::Deflection(curve) => curve,
+            Refusal::Radius(curve) => curve,
+            Refusal::Spiral(curve) => curve,
+            Refusal::LeastRadius(curve) => curve,
+            Refusal::LeastSpiral(curve) => curve,
+            Refusal::ShortArc(curve) => curve,
+            Refusal::ShortStraight(index) => index,
+            Refusal::SmallBuffer => 0,
+        }
+    }
+}
+
+// What must hold, and the refusal where it does not.
+pub fn must(holds: bool, refusal: Refusal) -> Verdict
+    ensures { λ r. ⌜ outcomeOf r ≡ need holds (numberOf refusal) (placeOf refusal) ⌝ }
+{
+    if holds {
+        Verdict::Pass
+    } else {
+        Verdict::Refused(refusal)
+    }
+}
+
+// The first refusal of two verdicts.
+pub fn first(a: Verdict, b: Verdict) -> Verdict
+    ensures { λ r. ⌜ outcomeOf r ≡ (outcomeOf a ▹ outcomeOf b) ⌝ }
+{
+    match a {
+        Verdict::Pass => b,
+        Verdict::Refused(_) => a,
+    }
+}

@@ -1,0 +1,245 @@
+//! The elements of one curve, in the order and words of document 01, Working
+//! rule. All work is in `i128`, so that no step can overflow.
+//!
+//! Capital X and Y of the paper are [`Elements::x`] and [`Elements::y`]; the
+//! paper's small x and y are the functions `x_ratio` and `y_ratio`.
+
+/// Greatest deflection A, seconds of arc (document 01, The line).
+pub const GREATEST_DEFLECTION: u32 = 432_000;
+/// Least radius R, mm (document 01, The line).
+pub const LEAST_RADIUS: u32 = 20_000;
+/// Greatest radius R, mm (document 01, The line).
+pub const GREATEST_RADIUS: u32 = 5_000_000;
+/// Greatest spiral length L, mm (document 01, The line).
+pub const GREATEST_SPIRAL: u32 = 500_000;
+/// Least arc D, µm (document 01, Refusal table, 14).
+pub const LEAST_ARC: i128 = 1_000;
+
+/// The scale 10⁹ (document 01, Working rule).
+const SCALE: i128 = 1_000_000_000;
+/// π at the scale 10⁹ (document 01, Working rule, full angle).
+const PI: i128 = 3_141_592_654;
+/// From mm at the scale 10⁹ to µm (document 01, Working rule, X and Y).
+const TO_MICROMETRES: i128 = 1_000_000;
+
+/// The elements of one curve, µm.
+#[derive(Clone, Copy, Debug, PartialEq, Eq)]
+pub struct Elements {
+    /// X of the spiral's end.
+    pub x: i128,
+    /// Y of the spiral's end.
+    pub y: i128,
+    /// Shift k along the tangent.
+    pub k: i128,
+    /// Shift p of the arc.
+    pub p: i128,
+    /// Length D of the arc.
+    pub d: i128,
+    /// Tangent length TT, from TS to PI.
+    pub tt: i128,
+}
+
+/// A refusal: its number and place (document 01, Refusal table).
+#[derive(Clone, Copy, Debug, PartialEq, Eq)]
+pub struct Refusal {
+    pub number: u8,
+    pub place: u16,
+}
+
+/// The elements of the curve with deflection `a` in seconds, radius `r` and
+/// spiral length `l` in mm. Checks 9, 10, 11, 14 in this order, place 0
+/// (document 01, Refusal table, Order).
+pub fn elements(a: u32, r: u32, l: u32) -> Result<Elements, Refusal> {
+    check_ranges(a, r, l)?;
+    let found = working_rule(a, r, l);
+    if found.d < LEAST_ARC {
+        return refuse(14);
+    }
+    Ok(found)
+}
+
+/// Checks 9, 10 and 11 (document 01, Refusal table).
+fn check_ranges(a: u32, r: u32, l: u32) -> Result<(), Refusal> {
+    if !(1..=GREATEST_DEFLECTION).contains(&a) {
+        return refuse(9);
+    }
+    if !(LEAST_RADIUS..=GREATEST_RADIUS).contains(&r) {
+        return refuse(10);
+    }
+    if l > GREATEST_SPIRAL || l > r {
+        return refuse(11);
+    }
+    Ok(())
+}
+
+/// A refusal of a call that works on no line: place 0.
+fn refuse<T>(number: u8) -> Result<T, Refusal> {
+    Err(Refusal { number, place: 0 })
+}
+
+/// All six elements of a curve whose fields are in range (document 01,
+/// Working rule).
+fn working_rule(a: u32, r: u32, l: u32) -> Elements {
+    let t = spiral_angle(l, r);
+    let d = arc(a, r, l);
+    let (r, l) = (i128::from(r), i128::from(l));
+
+    let x = quotient(l * x_ratio(t), TO_MICROMETRES);
+    let y = quotient(l * y_ratio(t), TO_MICROMETRES);
+    let k = x - quotient(r * sine(t), TO_MICROMETRES);
+    let p = y - quotient(r * (SCALE - cosine(t)), TO_MICROMETRES);
+    let tt = k + quotient((1_000 * r + p) * tan(half_angle(a)), SCALE);
+    Elements { x, y, k, p, d, tt }
+}
+
+/// A quotient of numbers not below zero, rounded down (document 01, Working
+/// rule).
+fn quotient(upper: i128, lower: i128) -> i128 {
+    debug_assert!(upper >= 0, "a quotient of a number below zero: {upper}");
+    debug_assert!(lower > 0, "a quotient by a number not above zero: {lower}");
+    upper / lower
+}
+
+/// Full angle: A × 3,141,592,654 / 648,000 (document 01, Working rule).
+fn full_angle(a: u32) -> i128 {
+    quotient(i128::from(a) * PI, 648_000)
+}
+
+/// Half angle: the same over 1,296,000 (document 01, Working rule).
+fn half_angle(a: u32) -> i128 {
+    quotient(i128::from(a) * PI, 1_296_000)
+}
+
+/// Spiral angle t: L × 500,000,000 / R (document 01, Working rule).
+fn spiral_angle(l: u32, r: u32) -> i128 {
+    quotient(i128::from(l) * 500_000_000, i128::from(r))
+}
+
+/// Sine of q: terms q, then former × z / (10⁹ × 2j × (2j + 1)), j = 1 to 6,
+/// signs alternating, first plus (document 01, Working rule).
+fn sine(q: i128) -> i128 {
+    let z = quotient(q * q, SCALE);
+    let mut term = q;
+    let mut sum = term;
+    for j in 1..=6 {
+        term = quotient(term * z, SCALE * (2 * j) * (2 * j + 1));
+        sum += sign(j) * term;
+    }
+    sum
+}
+
+/// Cosine of q: terms 10⁹, then former × z / (10⁹ × (2j − 1) × 2j), j = 1 to
+/// 6, signs alternating, first plus (document 01, Working rule).
+fn cosine(q: i128) -> i128 {
+    let z = quotient(q * q, SCALE);
+    let mut term = SCALE;
+    let mut sum = term;
+    for j in 1..=6 {
+        term = quotient(term * z, SCALE * (2 * j - 1) * (2 * j));
+        sum += sign(j) * term;
+    }
+    sum
+}
+
+/// The sign of term j: minus for odd j, plus for even.
+fn sign(j: i128) -> i128 {
+    if j % 2 == 1 {
+        -1
+    } else {
+        1
+    }
+}
+
+/// t2 = t × t / 10⁹ (document 01, Working rule).
+fn t2(t: i128) -> i128 {
+    quotient(t * t, SCALE)
+}
+
+/// t3 = t2 × t / 10⁹ (document 01, Working rule).
+fn t3(t: i128) -> i128 {
+    quotient(t2(t) * t, SCALE)
+}
+
+/// t4 = t2 × t2 / 10⁹ (document 01, Working rule).
+fn t4(t: i128) -> i128 {
+    quotient(t2(t) * t2(t), SCALE)
+}
+
+/// Small x = 10⁹ − t2/10 + t4/216 (document 01, Working rule).
+fn x_ratio(t: i128) -> i128 {
+    SCALE - quotient(t2(t), 10) + quotient(t4(t), 216)
+}
+
+/// Small y = t/3 − t3/42 (document 01, Working rule).
+fn y_ratio(t: i128) -> i128 {
+    quotient(t, 3) - quotient(t3(t), 42)
+}
+
+/// D = R × full angle / 10⁶ − 1,000 × L, which may be below zero (document
+/// 01, Working rule).
+pub fn arc(a: u32, r: u32, l: u32) -> i128 {
+    quotient(i128::from(r) * full_angle(a), TO_MICROMETRES) - 1_000 * i128::from(l)
+}
+
+/// tan = sine × 10⁹ / cosine (document 01, Working rule).
+fn tan(q: i128) -> i128 {
+    quotient(sine(q) * SCALE, cosine(q))
+}
+
+#[cfg(test)]
+mod tests {
+    use super::*;
+
+    #[test]
+    fn case_1() {
+        let expected = Elements {
+            x: 39_986_940,
+            y: 761_727,
+            k: 19_997_823,
+            p: 190_454,
+            d: 261_638_467,
+            tt: 180_989_278,
+        };
+        assert_eq!(elements(177_764, 350_000, 40_000), Ok(expected));
+    }
+
+    #[test]
+    fn case_6() {
+        assert_eq!(arc(23_574, 350_000, 40_000), 1_491);
+        assert_eq!(elements(23_574, 350_000, 40_000).unwrap().d, 1_491);
+    }
+
+    #[test]
+    fn case_7() {
+        assert_eq!(arc(23_573, 350_000, 40_000), -205);
+        assert_eq!(elements(23_573, 350_000, 40_000), refuse(14));
+    }
+
+    #[test]
+    fn case_8() {
+        assert_eq!(elements(1, 350_000, 0).unwrap().d, 1_696);
+        assert_eq!(arc(1, 200_000, 0), 969);
+        assert_eq!(elements(1, 200_000, 0), refuse(14));
+    }
+
+    #[test]
+    fn case_11() {
+        for (a, r) in [(177_764, 350_000), (432_000, 20_000), (432_000, 5_000_000)] {
+            let found = elements(a, r, 0).unwrap();
+            assert_eq!((found.x, found.y, found.k, found.p), (0, 0, 0, 0));
+        }
+    }
+
+    #[test]
+    fn ranges_are_checked_in_order() {
+        const MOST: u32 = u32::MAX;
+        assert_eq!(elements(0, 0, MOST), refuse(9));
+        assert_eq!(elements(432_001, 0, MOST), refuse(9));
+        assert_eq!(elements(1, 19_999, MOST), refuse(10));
+        assert_eq!(elements(1, 5_000_001, MOST), refuse(10));
+        assert_eq!(elements(1, 5_000_000, 500_001), refuse(11));
+        assert_eq!(elements(1, 20_000, 20_001), refuse(11));
+        assert_eq!(elements(1, 20_000, 20_000), refuse(14));
+        assert_eq!(elements(MOST, MOST, MOST), refuse(9));
+    }
+}

@@ -1,0 +1,282 @@
+//! The sample curves: document 01's cases, the edges of the ranges, then
+//! random curves. The same seed gives the same list on every machine.
+
+use crate::curve::Curve;
+use reference::elements::{
+    arc, GREATEST_DEFLECTION, GREATEST_RADIUS, GREATEST_SPIRAL, LEAST_ARC, LEAST_RADIUS,
+};
+
+/// The first `count` sample curves of the seed's endless list.
+pub fn samples(seed: u64, count: usize) -> impl Iterator<Item = Curve> {
+    let mut dice = Dice { state: seed };
+    let random = std::iter::repeat_with(move || random_round(&mut dice)).flatten();
+    staked_cases()
+        .into_iter()
+        .chain(edges())
+        .chain(random)
+        .take(count)
+}
+
+/// Document 01, Staked cases.
+fn staked_cases() -> Vec<Curve> {
+    vec![
+        // Case 1, which has the numbers of source document 002's example.
+        Curve::new(177_764, 350_000, 40_000),
+        // Cases 6 and 7.
+        Curve::new(23_574, 350_000, 40_000),
+        Curve::new(23_573, 350_000, 40_000),
+        // Case 8, both radii.
+        Curve::new(1, 350_000, 0),
+        Curve::new(1, 200_000, 0),
+        // Case 11: simple curves.
+        Curve::new(177_764, 350_000, 0),
+        Curve::new(432_000, 20_000, 0),
+        Curve::new(432_000, 5_000_000, 0),
+    ]
+}
+
+/// Every combination of the values at the edges of the ranges.
+fn edges() -> Vec<Curve> {
+    let mut curves = Vec::new();
+    for a in [0, 1, 2, 431_999, 432_000, 432_001, u32::MAX] {
+        for r in [
+            0,
+            19_999,
+            20_000,
+            20_001,
+            4_999_999,
+            5_000_000,
+            5_000_001,
+            u32::MAX,
+        ] {
+            for l in spiral_edges(r) {
+                curves.push(Curve::new(a, r, l));
+            }
+        }
+    }
+    curves
+}
+
+/// The edges of L: its own range, then R − 1, R and R + 1 where they exist.
+fn spiral_edges(r: u32) -> Vec<u32> {
+    let mut lengths = vec![0, 1, 499_999, 500_000, 500_001, u32::MAX];
+    lengths.extend(r.checked_sub(1));
+    lengths.push(r);
+    lengths.extend(r.checked_add(1));
+    lengths
+}
+
+/// One round of random curves, some of each kind.
+fn random_round(dice: &mut Dice) -> Vec<Curve> {
+    let mut curves = vec![
+        uniform_curve(dice),
+        spread_radius_curve(dice),
+        small_curve(dice),
+        simple_curve(dice),
+        long_spiral(dice),
+        nearly_whole_spiral(dice),
+        out_of_range(dice),
+    ];
+    let radius = dice.between(LEAST_RADIUS, GREATEST_RADIUS);
+    curves.extend(least_arcs(dice, radius));
+    let radius = dice.spread(LEAST_RADIUS, GREATEST_RADIUS);
+    curves.extend(least_arcs(dice, radius));
+    curves
+}
+
+/// The greatest L in range for radius `r`.
+fn greatest_spiral(r: u32) -> u32 {
+    r.min(GREATEST_SPIRAL)
+}
+
+/// In range, all three uniform.
+fn uniform_curve(dice: &mut Dice) -> Curve {
+    let a = dice.between(1, GREATEST_DEFLECTION);
+    let r = dice.between(LEAST_RADIUS, GREATEST_RADIUS);
+    let l = dice.between(0, greatest_spiral(r));
+    Curve::new(a, r, l)
+}
+
+/// In range, small radii as frequent as large ones.
+fn spread_radius_curve(dice: &mut Dice) -> Curve {
+    let a = dice.between(1, GREATEST_DEFLECTION);
+    let r = dice.spread(LEAST_RADIUS, GREATEST_RADIUS);
+    let l = dice.between(0, greatest_spiral(r));
+    Curve::new(a, r, l)
+}
+
+/// In range, with small deflections and spirals frequent.
+fn small_curve(dice: &mut Dice) -> Curve {
+    let a = dice.spread(1, GREATEST_DEFLECTION);
+    let r = dice.spread(LEAST_RADIUS, GREATEST_RADIUS);
+    let l = dice.spread(1, greatest_spiral(r));
+    Curve::new(a, r, l)
+}
+
+/// In range, L = 0, small deflections frequent.
+fn simple_curve(dice: &mut Dice) -> Curve {
+    let a = dice.spread(1, GREATEST_DEFLECTION);
+    let r = dice.between(LEAST_RADIUS, GREATEST_RADIUS);
+    Curve::new(a, r, 0)
+}
+
+/// A small radius and L in its upper tenth.
+fn long_spiral(dice: &mut Dice) -> Curve {
+    let a = dice.between(180_000, GREATEST_DEFLECTION);
+    let r = dice.between(LEAST_RADIUS, 600_000);
+    let most = greatest_spiral(r);
+    let l = dice.between(most - most / 10, most);
+    Curve::new(a, r, l)
+}
+
+/// A small radius and L just below, at, or just above its greatest.
+fn nearly_whole_spiral(dice: &mut Dice) -> Curve {
+    let a = dice.between(180_000, GREATEST_DEFLECTION);
+    let r = dice.between(LEAST_RADIUS, 600_000);
+    let most = greatest_spiral(r);
+    let l = dice.between(most - 3, most + 1);
+    Curve::new(a, r, l)
+}
+
+/// Three curves of radius `r` at the edge of refusal 14: the last deflection
+/// without arc, the first with one, and the next.
+fn least_arcs(dice: &mut Dice, r: u32) -> Vec<Curve> {
+    let l = dice.between(0, greatest_spiral(r));
+    let a = least_deflection(r, l);
+    vec![
+        Curve::new(a - 1, r, l),
+        Curve::new(a, r, l),
+        Curve::new(a + 1, r, l),
+    ]
+}
+
+/// The least A from 1 whose arc D passes check 14. In range there always is
+/// one: at 432,000 seconds the full angle is over 2, and L is at most R.
+fn least_deflection(r: u32, l: u32) -> u32 {
+    let (mut low, mut high) = (1, GREATEST_DEFLECTION);
+    while low < high {
+        let middle = (low + high) / 2;
+        if arc(middle, r, l) >= LEAST_ARC {
+            high = middle;
+        } else {
+            low = middle + 1;
+        }
+    }
+    low
+}
+
+/// A curve in range with one field put out of range, or three numbers of any
+/// size.
+fn out_of_range(dice: &mut Dice) -> Curve {
+    let curve = spread_radius_curve(dice);
+    match dice.between(0, 4) {
+        0 => Curve {
+            a: dice.spread(GREATEST_DEFLECTION + 1, u32::MAX),
+            ..curve
+        },
+        1 => Curve {
+            r: dice.between(0, LEAST_RADIUS - 1),
+            ..curve
+        },
+        2 => Curve {
+            r: dice.spread(GREATEST_RADIUS + 1, u32::MAX),
+            ..curve
+        },
+        3 => Curve {
+            l: dice.spread(greatest_spiral(curve.r) + 1, u32::MAX),
+            ..curve
+        },
+        _ => Curve::new(
+            dice.between(0, u32::MAX),
+            dice.between(0, u32::MAX),
+            dice.between(0, u32::MAX),
+        ),
+    }
+}
+
+/// The generator splitmix64.
+struct Dice {
+    state: u64,
+}
+
+impl Dice {
+    fn next(&mut self) -> u64 {
+        self.state = self.state.wrapping_add(0x9E37_79B9_7F4A_7C15);
+        let mut z = self.state;
+        z = (z ^ (z >> 30)).wrapping_mul(0xBF58_476D_1CE4_E5B9);
+        z = (z ^ (z >> 27)).wrapping_mul(0x94D0_49BB_1331_11EB);
+        z ^ (z >> 31)
+    }
+
+    /// A number from `least` to `most`, all alike.
+    fn between(&mut self, least: u32, most: u32) -> u32 {
+        let width = u64::from(most) - u64::from(least) + 1;
+        let offset = self.next() % width;
+        least + u32::try_from(offset).expect("the offset is below the width")
+    }
+
+    /// A number from `least` (above 0) to `most`, each doubling about as
+    /// frequent as the next. In whole numbers, so alike on every machine.
+    fn spread(&mut self, least: u32, most: u32) -> u32 {
+        let power = self.between(least.ilog2(), most.ilog2());
+        let low = 1 << power;
+        let high = low + (low - 1);
+        self.between(low.max(least), high.min(most))
+    }
+}
+
+#[cfg(test)]
+mod tests {
+    use super::*;
+    use reference::elements::elements;
+
+    fn list(seed: u64, count: usize) -> Vec<Curve> {
+        samples(seed, count).collect()
+    }
+
+    #[test]
+    fn count_and_seed() {
+        assert_eq!(list(2, 0).len(), 0);
+        assert_eq!(list(2, 4_000).len(), 4_000);
+        assert_eq!(list(2, 4_000), list(2, 4_000));
+        assert_eq!(list(2, 600)[..], list(2, 4_000)[..600]);
+        assert_ne!(list(2, 4_000), list(3, 4_000));
+    }
+
+    #[test]
+    fn splitmix64_is_the_published_one() {
+        let mut dice = Dice { state: 1_234_567 };
+        assert_eq!(dice.next(), 6_457_827_717_110_365_317);
+        assert_eq!(dice.next(), 3_203_168_211_198_807_973);
+    }
+
+    #[test]
+    fn spread_stays_in_range() {
+        let mut dice = Dice { state: 1 };
+        for (least, most) in [(1, 1), (1, 432_000), (20_000, 5_000_000), (5, u32::MAX)] {
+            for _ in 0..10_000 {
+                assert!((least..=most).contains(&dice.spread(least, most)));
+            }
+        }
+    }
+
+    #[test]
+    fn edges_are_all_there() {
+        // Nine lengths for each of eight radii, less R − 1 of 0 and R + 1 of
+        // the largest number; seven deflections.
+        assert_eq!(edges().len(), 7 * (8 * 9 - 2));
+    }
+
+    #[test]
+    fn least_arcs_are_at_the_edge() {
+        let mut dice = Dice { state: 1 };
+        for _ in 0..10_000 {
+            let r = dice.spread(LEAST_RADIUS, GREATEST_RADIUS);
+            let accepted: Vec<bool> = least_arcs(&mut dice, r)
+                .iter()
+                .map(|curve| elements(curve.a, curve.r, curve.l).is_ok())
+                .collect();
+            assert_eq!(accepted, [false, true, true]);
+        }
+    }
+}
