@@ -1,0 +1,49 @@
+-- Document 01's cases 1 (elements), 6, 7, 8 and 11, from the definitions. Assumes nothing.
+use mathlib.Core.Path.{_≡_, refl}
+use Prim.Native.Nat.{ℕ, zero, suc, _+_, _*_, _/_}
+use native.Mathlib.Nat.{mul-zero, zero-mul, zero-div}
+use lib.IntN.{ℤ, pos, negsuc}
+use Rattle.line.specs.Checks.{curveOutcome}
+use Rattle.elements.specs.WorkingRule.{rounded, fullAngle, halfAngle, spiralAngle, term, alternating, sineOf, cosineOf, t2, t3, t4, unitX, unitY, spiralX, spiralY, centreOf, shiftOf, arcOf, tanOf, tangentOf}
+use Rattle.elements.specs.Answer.{Reply, answered, declined, valuesBy, arcOutcome, elementOutcome, elementReply}
+
+-- R 350,000 and L 40,000 in each; case 8 is without spirals.
+pub record Examples : Type 0 where
+  pub case-1 : elementReply 177764 350000 40000
+      ≡ answered (record { X = pos 39986940; Y = pos 761727; k = pos 19997823; p = pos 190454; D = pos 261638467; TT = pos 180989278 })
+  pub case-6 : arcOf 23574 350000 40000 ≡ pos 1491
+  pub case-7 : arcOf 23573 350000 40000 ≡ negsuc 204
+  pub case-7-refused : elementReply 23573 350000 40000 ≡ declined 14 0
+  pub case-8 : arcOf 1 350000 0 ≡ pos 1696
+  pub case-8-short : arcOf 1 200000 0 ≡ pos 969
+  pub case-8-refused : elementReply 1 200000 0 ≡ declined 14 0
+
+pub examples : Examples
+unfolding curveOutcome rounded fullAngle halfAngle spiralAngle term alternating sineOf cosineOf t2 t3 t4 unitX unitY spiralX spiralY centreOf shiftOf arcOf tanOf tangentOf valuesBy arcOutcome elementOutcome elementReply
+examples =
+    record
+      { case-1 = refl
+      ; case-6 = refl
+      ; case-7 = refl
+      ; case-7-refused = refl
+      ; case-8 = refl
+      ; case-8-short = refl
+      ; case-8-refused = refl
+      }
+
+-- Case 11: "L 0: X, Y, k, p are all 0.", at every radius.
+pub record WithoutSpirals (R : ℕ) : Type 0 where
+  pub X : spiralX R 0 ≡ pos 0
+  pub Y : spiralY R 0 ≡ pos 0
+  pub k : centreOf R 0 ≡ pos 0
+  pub p : shiftOf R 0 ≡ pos 0
+
+pub without-spirals : (R : ℕ) → WithoutSpirals R
+unfolding rounded spiralAngle term alternating sineOf cosineOf t2 t3 t4 unitX unitY spiralX spiralY centreOf shiftOf
+without-spirals R =
+    record
+      { X = rw (zero-div R)
+      ; Y = rw (zero-div R)
+      ; k = rw (zero-div R, mul-zero R)
+      ; p = rw (zero-div R, mul-zero R)
+      }

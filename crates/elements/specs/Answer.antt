@@ -1,0 +1,67 @@
+-- The call for one curve's elements (document 01, "Order" and "Working rule"): what is answered for any A, R, L.
+use Prim.Native.Nat.{ℕ}
+use lib.IntN.{ℤ, pos}
+use lib.Signed.{leZ}
+use Rattle.line.specs.Refusals.{Outcome, passed, refused, numberOf, placeOf, need, _▹_}
+use Rattle.line.specs.Checks.{curveOutcome}
+use Rattle.elements.specs.declared.Elements.{Elements}
+use Rattle.elements.specs.declared.ElementAnswer.{ElementAnswer}
+use Rattle.elements.specs.declared.ElementAnswer.the-variants.{Found, Refused}
+use Rattle.elements.specs.WorkingRule.{spiralX, spiralY, centreOf, shiftOf, arcOf, tangentOf}
+
+-- "The element call returns X, Y, k, p, D, TT.", in µm
+pub record Values : Type 0 where
+  pub X : ℤ
+  pub Y : ℤ
+  pub k : ℤ
+  pub p : ℤ
+  pub D : ℤ
+  pub TT : ℤ
+
+-- What the call says: the six values, or a refusal's number and place.
+pub data Reply : Type 0 where
+  answered : Values → Reply
+  declined : (number place : ℕ) → Reply
+
+-- What each case of the call's answer says.
+abbrev pub replyOf : ElementAnswer → Reply
+replyOf (Found e) =
+    answered
+      (record
+        { X = pos (e .x)
+        ; Y = pos (e .y)
+        ; k = pos (e .centre)
+        ; p = pos (e .shift)
+        ; D = pos (e .arc)
+        ; TT = pos (e .tangent)
+        })
+replyOf (Refused r) = declined (numberOf r) (placeOf r)
+
+-- The six values by the working rule.
+unfoldable pub valuesBy : ℕ → ℕ → ℕ → Values
+valuesBy A R L =
+    record
+      { X = spiralX R L
+      ; Y = spiralY R L
+      ; k = centreOf R L
+      ; p = shiftOf R L
+      ; D = arcOf A R L
+      ; TT = tangentOf A R L
+      }
+
+-- 14: "arc D under 1,000 µm"
+unfoldable pub arcOutcome : ℕ → ℕ → ℕ → ℕ → Outcome
+arcOutcome A R L place = need (leZ (pos 1000) (arcOf A R L)) 14 place
+
+-- "checks 9, 10, 11, 14 with place 0"
+unfoldable pub elementOutcome : ℕ → ℕ → ℕ → Outcome
+elementOutcome A R L = curveOutcome A R L 0 ▹ arcOutcome A R L 0
+
+-- The values where the checks pass, else the refusal.
+abbrev pub replyTo : Outcome → Values → Reply
+replyTo passed values = answered values
+replyTo (refused number place) values = declined number place
+
+-- What the call answers.
+unfoldable pub elementReply : ℕ → ℕ → ℕ → Reply
+elementReply A R L = replyTo (elementOutcome A R L) (valuesBy A R L)

@@ -1,0 +1,3 @@
+-- What the contracts and the laws of `elements` cite.
+pub mod WorkingRule
+pub mod Answer

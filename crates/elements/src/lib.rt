@@ -1,0 +1,26 @@
+// The elements of one curve by document 01's working rule.
+ghost use mathlib.Core.Path.{_≡_};
+ghost use Rattle.elements.specs.Answer.{replyOf, elementReply};
+use line::{Refusal, Verdict};
+
+// The elements of a curve, in µm.
+pub struct Elements {
+    // X: the end of the spiral, along the tangent.
+    pub x: u64,
+    // Y: the end of the spiral, square to the tangent.
+    pub y: u64,
+    // k: the abscissa of the arc's centre.
+    pub centre: u64,
+    // p: the shift of the arc from the tangent.
+    pub shift: u64,
+    // D: the length of the arc.
+    pub arc: u64,
+    // TT: the tangent, from TS to the PI.
+    pub tangent: u64,
+}
+
+// What the call for one curve's elements answers.
+pub enum ElementAnswer {
+    Found(Elements),
+    Refused(Refusal),
+}

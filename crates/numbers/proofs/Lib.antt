@@ -1,0 +1,2 @@
+-- Laws on whole numbers.
+pub mod Differences

@@ -1,0 +1,2 @@
+-- Whole numbers.
+pub mod Whole
