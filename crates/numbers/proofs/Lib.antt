@@ -1,2 +1,3 @@
 -- Laws on whole numbers.
 pub mod Differences
+pub mod Ranges

@@ -1,0 +1,229 @@
+-- The ranges of everything that the working rule computes for a curve in range: each quotient is of a number not below zero, by one above
+-- zero; k and p are not below zero; and an arc that is answered is 1,000 µm at least. Assumes nothing.
+use mathlib.Core.Path.{_≡_, refl, sym, _∙_, ap}
+use mathlib.Core.Bool.{Bool, true, false}
+use Prim.Native.Nat.{ℕ, zero, suc, _+_, _-_, _*_, _/_, _≤_, _<_}
+use native.Mathlib.Nat.{mul-add, add-mul, mul-assoc, mul-comm, mul-left-comm, mul-zero, mul-le-mul, mul-le-mul-left, mul-le-mul-right, mul-div-le, div-le-of-le-mul}
+use native.Mathlib.Decide.{decLe}
+use native.Mathlib.Omega.{arith}
+use lib.Dec.{leb}
+use lib.IntN.{ℤ, pos, _+ℤ_, _-ℤ_, _*ℤ_}
+use lib.Signed.{leZ}
+use borrow.Author.Tests.{leb-true}
+use Rattle.numbers.specs.Whole.{_÷_, Between}
+use Rattle.numbers.proofs.Differences.{minus-le, reaches}
+use Rattle.numbers.proofs.Ranges.{at-least, at-most, natural, sum-between, difference-between, product-between, quotient-between}
+use Rattle.line.specs.Refusals.{passed}
+use Rattle.line.specs.Checks.{curveOutcome}
+use Rattle.line.specs.Ranges.{CurveInRange}
+use Rattle.line.proofs.Outcomes.{passed-left, passed-right, need-holds}
+use Rattle.line.proofs.InRange.{curve-in-range}
+use Rattle.elements.specs.WorkingRule.{scale, rounded, fullAngle, halfAngle, spiralAngle, sineOf, cosineOf, unitX, unitY, spiralX, spiralY, centreOf, shiftOf, arcOf, tanOf, tangentOf}
+use Rattle.elements.specs.Answer.{arcOutcome, elementOutcome}
+use Rattle.elements.proofs.Rounding.{rounded-between, rounded-keeps-order}
+use Rattle.elements.proofs.Series.{greatestAngle, sine-between, cosine-between, cosine-above}
+use Rattle.elements.proofs.UnitSpiral.{greatestSpiralAngle, unitX-between, unitY-between, unitY-quarter}
+
+ruleset products = (mul-add, add-mul, mul-assoc, mul-comm, mul-left-comm)
+
+-- ---- the angles
+
+pub full-angle-most : (A : ℕ) → A ≤ 432000 → fullAngle A ≤ 2094395102
+unfolding fullAngle
+full-angle-most A h = omega arith
+
+pub half-angle-most : (A : ℕ) → A ≤ 432000 → halfAngle A ≤ greatestAngle
+unfolding halfAngle
+half-angle-most A h = omega arith
+
+pub spiral-angle-most : (R L : ℕ) → L ≤ R → spiralAngle R L ≤ greatestSpiralAngle
+unfolding spiralAngle
+spiral-angle-most R L h = div-le-of-le-mul R (mul-le-mul-right 500000000 h)
+
+-- ---- k and p: the parts that are taken away are no greater
+
+angle-by-radius : (R L : ℕ) → R * spiralAngle R L ≤ L * 500000000
+unfolding spiralAngle
+angle-by-radius R L = mul-div-le (L * 500000000) R
+
+-- R × sine(t) is at most L × x: the sine is at most the angle, and x above a half.
+pub sine-part : (R L : ℕ) {s x : ℕ} → L ≤ R → pos s ≡ sineOf (spiralAngle R L) → pos x ≡ unitX (spiralAngle R L) → R * s ≤ L * x
+sine-part R L {s} {x} h es ex =
+    let m = spiral-angle-most R L h in
+    let low : 500000000 ≤ x = omega (arith, at-least ex (unitX-between (spiralAngle R L) m)) in
+    omega
+      ( arith
+      , mul-le-mul-left R (at-most es (sine-between (spiralAngle R L) (omega arith)))
+      , angle-by-radius R L
+      , mul-le-mul-left L low)
+
+-- R × (10⁹ − cosine(t)) is at most L × y: 10⁹ less the cosine is at most half the square, and y a quarter of the angle at least.
+half-square : (R L t z u y : ℕ) → 2 * u ≤ z → scale * z ≤ t * t → R * t ≤ L * 500000000 → t ≤ 4 * y → R * u ≤ L * y
+half-square R L t z u y a b d e =
+    omega
+      ( arith
+      , simp products at (mul-le-mul-left R a)
+      , simp products at (mul-le-mul-left R b)
+      , simp products at (mul-le-mul-right t d)
+      , simp products at (mul-le-mul-left L e))
+
+pub cosine-part : (R L : ℕ) {c y : ℕ} → L ≤ R → pos c ≡ cosineOf (spiralAngle R L) → pos y ≡ unitY (spiralAngle R L) → R * (scale - c) ≤ L * y
+cosine-part R L {c} {y} h ec ey = go (decLe 9 (spiralAngle R L))
+  where
+    m : spiralAngle R L ≤ greatestSpiralAngle
+    m = spiral-angle-most R L h
+
+    go : Dec (9 ≤ spiralAngle R L) → R * (scale - c) ≤ L * y
+    go (yes n) =
+        half-square R L (spiralAngle R L) (spiralAngle R L * spiralAngle R L / scale) (scale - c) y
+        (omega (arith, at-least ec (cosine-between (spiralAngle R L) (omega (arith, m)))))
+        (mul-div-le (spiralAngle R L * spiralAngle R L) scale)
+        (angle-by-radius R L)
+        (unitY-quarter (spiralAngle R L) m ey n)
+    go (no n) =
+        let small : spiralAngle R L ≤ 8 = omega arith in
+        let none : scale - c ≡ 0 =
+            omega (arith, at-least ec (cosine-between (spiralAngle R L) (omega (arith, m))), mul-le-mul small small) in
+        rw (none, mul-zero) (omega arith)
+
+-- ---- every value of the rule
+
+-- For a curve in range: the angles, the ratios that quotients are taken of, and the elements.
+pub record RuleBounds (A R L : ℕ) : Type 0 where
+  pub full : fullAngle A ≤ 2094395102
+  pub half : halfAngle A ≤ 1047197551
+  pub t : spiralAngle R L ≤ 500000000
+  pub x : Between (unitX (spiralAngle R L)) 975000000 1000000000
+  pub y : Between (unitY (spiralAngle R L)) 0 166666666
+  pub sine : Between (sineOf (spiralAngle R L)) 0 500000000
+  pub cosine : Between (pos scale -ℤ cosineOf (spiralAngle R L)) 0 1000000000
+  pub sine-half : Between (sineOf (halfAngle A)) 0 1047197551
+  pub cosine-half : Between (cosineOf (halfAngle A)) 451688645 1000000000
+  pub tan : Between (tanOf A) 0 2318405749
+  pub X : Between (spiralX R L) 0 500000000
+  pub Y : Between (spiralY R L) 0 83333333
+  pub k : Between (centreOf R L) 0 500000000
+  pub p : Between (shiftOf R L) 0 83333333
+  pub turn : Between (rounded (pos (R * fullAngle A)) 1000000) 0 10471975510
+  pub TT : Between (tangentOf A R L) 0 12300000000
+
+module _ (A R L : ℕ) (ok : CurveInRange A R L) where
+  t-most : spiralAngle R L ≤ greatestSpiralAngle
+  t-most = spiral-angle-most R L (ok .L-to-R)
+
+  sine-t : Between (sineOf (spiralAngle R L)) 0 (spiralAngle R L)
+  sine-t = sine-between (spiralAngle R L) (omega (arith, t-most))
+
+  cosine-t : Between (cosineOf (spiralAngle R L)) 451688645 scale
+  cosine-t = cosine-above (spiralAngle R L) (omega (arith, t-most))
+
+  one-less-cosine : Between (pos scale -ℤ cosineOf (spiralAngle R L)) 0 scale
+  one-less-cosine = difference-between (natural scale {least = 0} {most = scale} (omega arith) (omega arith)) cosine-t (cosine-t .high)
+
+  X-between : Between (spiralX R L) 0 500000000
+  unfolding spiralX
+  X-between =
+      rounded-between 1000000 500000000
+      (product-between (natural L {least = 0} {most = 500000} (omega arith) (ok .L-most)) (unitX-between (spiralAngle R L) t-most))
+      (omega arith)
+
+  Y-between : Between (spiralY R L) 0 83333333
+  unfolding spiralY
+  Y-between =
+      rounded-between 1000000 83333333
+      (product-between (natural L {least = 0} {most = 500000} (omega arith) (ok .L-most)) (unitY-between (spiralAngle R L) t-most))
+      (omega arith)
+
+  radius : Between (pos R) 0 5000000
+  radius = natural R (omega arith) (ok .R-most)
+
+  -- k is not below zero.
+  k-between : Between (centreOf R L) 0 500000000
+  unfolding centreOf spiralX
+  k-between =
+      let part = rounded-between 1000000 2500000000 (product-between radius sine-t) (omega (arith, t-most)) in
+      difference-between X-between part
+      (rounded-keeps-order 1000000 (omega arith)
+      (sym (part .same) ∙ ap (λ (z : ℤ). rounded (pos R *ℤ z) 1000000) (sine-t .same))
+      (sym (X-between .same) ∙ ap (λ (z : ℤ). rounded (pos L *ℤ z) 1000000) (unitX-between (spiralAngle R L) t-most .same))
+      (sine-part R L (ok .L-to-R) (sym (sine-t .same)) (sym (unitX-between (spiralAngle R L) t-most .same))))
+
+  -- p is not below zero.
+  p-between : Between (shiftOf R L) 0 83333333
+  unfolding shiftOf spiralY
+  p-between =
+      let part = rounded-between 1000000 5000000000 (product-between radius one-less-cosine) (omega arith) in
+      let less : pos scale -ℤ cosineOf (spiralAngle R L) ≡ pos (scale - cosine-t .value) =
+          ap (λ (z : ℤ). pos scale -ℤ z) (cosine-t .same) ∙ minus-le (cosine-t .high) in
+      difference-between Y-between part
+      (rounded-keeps-order 1000000 (omega arith)
+      (sym (part .same) ∙ ap (λ (z : ℤ). rounded (pos R *ℤ z) 1000000) less)
+      (sym (Y-between .same) ∙ ap (λ (z : ℤ). rounded (pos L *ℤ z) 1000000) (unitY-between (spiralAngle R L) t-most .same))
+      (cosine-part R L (ok .L-to-R) (sym (cosine-t .same)) (sym (unitY-between (spiralAngle R L) t-most .same))))
+
+  sine-half : Between (sineOf (halfAngle A)) 0 greatestAngle
+  sine-half =
+      let b = sine-between (halfAngle A) (half-angle-most A (ok .A-most)) in
+      record { value = b .value; same = b .same; low = b .low; high = omega (arith, b .high, half-angle-most A (ok .A-most)) }
+
+  cosine-half : Between (cosineOf (halfAngle A)) 451688645 scale
+  cosine-half = cosine-above (halfAngle A) (half-angle-most A (ok .A-most))
+
+  tan-between : Between (tanOf A) 0 2318405749
+  unfolding tanOf
+  tan-between =
+      quotient-between
+      (product-between sine-half (natural scale {least = 0} {most = scale} (omega arith) (omega arith)))
+      cosine-half
+      2318405749
+      (omega arith)
+
+  turn-between : Between (rounded (pos (R * fullAngle A)) 1000000) 0 10471975510
+  turn-between =
+      rounded-between 1000000 10471975510
+      (product-between radius (natural (fullAngle A) {least = 0} {most = 2094395102} (omega arith) (full-angle-most A (ok .A-most))))
+      (omega arith)
+
+  TT-between : Between (tangentOf A R L) 0 12300000000
+  unfolding tangentOf
+  TT-between =
+      sum-between k-between
+      (rounded-between scale 11800000000
+      (product-between
+      (sum-between (natural (1000 * R) {least = 0} {most = 5000000000} (omega arith) (omega (arith, ok .R-most))) p-between)
+      tan-between)
+      (omega arith))
+
+  pub bounds : RuleBounds A R L
+  bounds =
+      record
+        { full = full-angle-most A (ok .A-most)
+        ; half = half-angle-most A (ok .A-most)
+        ; t = t-most
+        ; x = unitX-between (spiralAngle R L) t-most
+        ; y = unitY-between (spiralAngle R L) t-most
+        ; sine = record { value = sine-t .value; same = sine-t .same; low = sine-t .low; high = omega (arith, sine-t .high, t-most) }
+        ; cosine = one-less-cosine
+        ; sine-half = sine-half
+        ; cosine-half = cosine-half
+        ; tan = tan-between
+        ; X = X-between
+        ; Y = Y-between
+        ; k = k-between
+        ; p = p-between
+        ; turn = turn-between
+        ; TT = TT-between
+        }
+
+-- D is 1,000 µm at least where the elements are answered.
+pub arc-answered : (A R L : ℕ) → elementOutcome A R L ≡ passed → Between (arcOf A R L) 1000 10471975510
+unfolding elementOutcome arcOutcome arcOf
+arc-answered A R L e =
+    let ok = curve-in-range A R L 0 (passed-left (curveOutcome A R L 0) _ e) in
+    let u = turn-between A R L ok in
+    let reached : leZ (pos 1000) (arcOf A R L) ≡ true = need-holds _ 14 0 (passed-right (curveOutcome A R L 0) _ e) in
+    let far : 1000 * L + 1000 ≤ u .value =
+        leb-true (1000 * L + 1000) (u .value)
+        (sym (reaches (u .value) (1000 * L) 1000) ∙ ap (λ (z : ℤ). leZ (pos 1000) (z -ℤ pos (1000 * L))) (sym (u .same)) ∙ reached) in
+    rw (u .same, minus-le {a = u .value} {b = 1000 * L} (omega arith))
+    (natural (u .value - 1000 * L) (omega arith) (omega (arith, u .high)))

@@ -1,0 +1,23 @@
+-- The rounding of an element's last division: what callers use of it, whichever way it goes. Assumes nothing.
+use mathlib.Core.Path.{_≡_, refl, sym, _∙_, ap}
+use Prim.Native.Nat.{ℕ, zero, suc, _+_, _-_, _*_, _/_, _≤_, _<_}
+use native.Mathlib.Nat.{div-le-of-le-mul, div-mul-le-self, le-div-iff-mul-le}
+use native.Mathlib.Omega.{arith}
+use lib.IntN.{ℤ, pos}
+use Rattle.numbers.specs.Whole.{Between}
+use Rattle.numbers.proofs.Ranges.{natural}
+use Rattle.elements.specs.WorkingRule.{rounded}
+
+-- A number of `most` units and no more is rounded to `most` or less, and not below zero.
+pub rounded-between : {z : ℤ} {least h : ℕ} (m most : ℕ) → Between z least h → h ≤ m * most → Between (rounded z m) 0 most
+unfolding rounded
+rounded-between m most b o =
+    rw (b .same) (natural (b .value / m) (omega arith) (div-le-of-le-mul m (omega (arith, b .high))))
+
+-- The greater number is not rounded to less.
+pub rounded-keeps-order : {a b u v : ℕ} (m : ℕ) → zero < m → pos u ≡ rounded (pos a) m → pos v ≡ rounded (pos b) m → a ≤ b → u ≤ v
+unfolding rounded
+rounded-keeps-order {a} {b} {u} {v} m above p q h =
+    let eu : u ≡ a / m = cc in
+    let ev : v ≡ b / m = cc in
+    rw (eu, ev) (le-div-iff-mul-le {k = m} {x = a / m} {y = b} above .1 (omega (arith, div-mul-le-self a m)))
