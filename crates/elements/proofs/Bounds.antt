@@ -21,7 +21,7 @@ use Rattle.line.proofs.InRange.{curve-in-range}
 use Rattle.elements.specs.WorkingRule.{scale, rounded, fullAngle, halfAngle, spiralAngle, sineOf, cosineOf, unitX, unitY, spiralX, spiralY, centreOf, shiftOf, arcOf, tanOf, tangentOf}
 use Rattle.elements.specs.Answer.{arcOutcome, elementOutcome}
 use Rattle.elements.proofs.Rounding.{rounded-between, rounded-keeps-order}
-use Rattle.elements.proofs.Series.{greatestAngle, sine-between, cosine-between, cosine-above}
+use Rattle.elements.proofs.SineAndCosine.{greatestAngle, sine-between, cosine-between, cosine-above}
 use Rattle.elements.proofs.UnitSpiral.{greatestSpiralAngle, unitX-between, unitY-between, unitY-quarter}
 
 ruleset products = (mul-add, add-mul, mul-assoc, mul-comm, mul-left-comm)

@@ -1,6 +1,6 @@
 -- Laws of the working rule, and document 01's examples.
 pub mod Rounding
-pub mod Series
+pub mod SineAndCosine
 pub mod UnitSpiral
 pub mod Bounds
 pub mod Examples

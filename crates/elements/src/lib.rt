@@ -1,7 +1,9 @@
 // The elements of one curve by document 01's working rule.
-ghost use mathlib.Core.Path.{_≡_};
-ghost use Rattle.elements.specs.Answer.{replyOf, elementReply};
-use line::{Refusal, Verdict};
+mod rule;
+mod series;
+
+pub use rule::curve_elements;
+use line::Refusal;
 
 // The elements of a curve, in µm.
 pub struct Elements {

@@ -32,6 +32,31 @@ module _ (t : ℕ → ℕ) (h1 : t 1 ≤ t 0) (h2 : t 2 ≤ t 1) (h3 : t 3 ≤ t
       record
         { value = t 0 + t 2 + t 4 + t 6 - (t 1 + t 3 + t 5); same = seven-terms; low = omega arith; high = omega arith }
 
+-- The same sum, of terms that were computed one after the other.
+pub computed-series : (divisor : ℕ → ℕ) (first z : ℕ) {t1 t2 t3 t4 t5 t6 d1 d2 d3 d4 d5 d6 : ℕ}
+    → (t1 ≡ first * z / (scale * d1)) × (t1 ≤ first) → (t2 ≡ t1 * z / (scale * d2)) × (t2 ≤ t1) → (t3 ≡ t2 * z / (scale * d3)) × (t3 ≤ t2)
+    → (t4 ≡ t3 * z / (scale * d4)) × (t4 ≤ t3) → (t5 ≡ t4 * z / (scale * d5)) × (t5 ≤ t4) → (t6 ≡ t5 * z / (scale * d6)) × (t6 ≤ t5)
+    → d1 ≡ divisor 1 → d2 ≡ divisor 2 → d3 ≡ divisor 3 → d4 ≡ divisor 4 → d5 ≡ divisor 5 → d6 ≡ divisor 6
+    → pos (first + t2 + t4 + t6 - (t1 + t3 + t5)) ≡ alternating (term divisor first z) 6
+unfolding term
+computed-series divisor first z {t1} {t2} {t3} {t4} {t5} {t6} n1 n2 n3 n4 n5 n6 e1 e2 e3 e4 e5 e6 =
+    let t = term divisor first z in
+    let q1 : t1 ≡ t 1 = n1 .0 ∙ rw e1 in
+    let q2 : t2 ≡ t 2 = n2 .0 ∙ rw (q1, e2) in
+    let q3 : t3 ≡ t 3 = n3 .0 ∙ rw (q2, e3) in
+    let q4 : t4 ≡ t 4 = n4 .0 ∙ rw (q3, e4) in
+    let q5 : t5 ≡ t 5 = n5 .0 ∙ rw (q4, e5) in
+    let q6 : t6 ≡ t 6 = n6 .0 ∙ rw (q5, e6) in
+    ap pos (rw (q1, q2, q3, q4, q5, q6))
+    ∙ sym
+      (seven-terms t
+      (omega (arith, q1, n1 .1))
+      (omega (arith, q1, q2, n2 .1))
+      (omega (arith, q2, q3, n3 .1))
+      (omega (arith, q3, q4, n4 .1))
+      (omega (arith, q4, q5, n5 .1))
+      (omega (arith, q5, q6, n6 .1)))
+
 pub series-between : (divisor : ℕ → ℕ) (first z : ℕ) → ((j : ℕ) → z ≤ scale * divisor (suc j))
     → Between (alternating (term divisor first z) 6) (first - first * z / (scale * divisor 1)) first
 unfolding term
