@@ -12,7 +12,7 @@ use lib.Signed.{leZ}
 use borrow.Author.Tests.{leb-true}
 use Rattle.numbers.specs.Whole.{_÷_, Between}
 use Rattle.numbers.proofs.Differences.{minus-le, reaches}
-use Rattle.numbers.proofs.Ranges.{at-least, at-most, natural, sum-between, difference-between, product-between, quotient-between}
+use Rattle.numbers.proofs.Ranges.{at-least, at-most, natural, widen, sum-between, difference-between, product-between, quotient-between}
 use Rattle.line.specs.Refusals.{passed}
 use Rattle.line.specs.Checks.{curveOutcome}
 use Rattle.line.specs.Ranges.{CurveInRange}
@@ -86,6 +86,86 @@ cosine-part R L {c} {y} h ec ey = go (decLe 9 (spiralAngle R L))
             omega (arith, at-least ec (cosine-between (spiralAngle R L) (omega (arith, m))), mul-le-mul small small) in
         rw (none, mul-zero) (omega arith)
 
+-- ---- the elements of the spirals
+
+module _ (R L : ℕ) (R-most : R ≤ 5000000) (L-most : L ≤ 500000) (L-to-R : L ≤ R) where
+  t-most : spiralAngle R L ≤ greatestSpiralAngle
+  t-most = spiral-angle-most R L L-to-R
+
+  length : Between (pos L) 0 500000
+  length = natural L (omega arith) L-most
+
+  radius : Between (pos R) 0 5000000
+  radius = natural R (omega arith) R-most
+
+  sine-t : Between (sineOf (spiralAngle R L)) 0 (spiralAngle R L)
+  sine-t = sine-between (spiralAngle R L) (omega (arith, t-most))
+
+  cosine-t : Between (cosineOf (spiralAngle R L)) 451688645 scale
+  cosine-t = cosine-above (spiralAngle R L) (omega (arith, t-most))
+
+  one-less-cosine : Between (pos scale -ℤ cosineOf (spiralAngle R L)) 0 scale
+  one-less-cosine = difference-between (natural scale {least = 0} {most = scale} (omega arith) (omega arith)) cosine-t (cosine-t .high)
+
+  pub X-between : Between (spiralX R L) 0 500000000
+  unfolding spiralX
+  X-between = rounded-between 1000000 500000000 (product-between length (unitX-between (spiralAngle R L) t-most)) (omega arith)
+
+  pub Y-between : Between (spiralY R L) 0 83333333
+  unfolding spiralY
+  Y-between = rounded-between 1000000 83333333 (product-between length (unitY-between (spiralAngle R L) t-most)) (omega arith)
+
+  -- k is not below zero.
+  pub k-between : Between (centreOf R L) 0 500000000
+  unfolding centreOf spiralX
+  k-between =
+      let part = rounded-between 1000000 2500000000 (product-between radius sine-t) (omega (arith, t-most)) in
+      difference-between X-between part
+      (rounded-keeps-order 1000000 (omega arith)
+      (sym (part .same) ∙ ap (λ (z : ℤ). rounded (pos R *ℤ z) 1000000) (sine-t .same))
+      (sym (X-between .same) ∙ ap (λ (z : ℤ). rounded (pos L *ℤ z) 1000000) (unitX-between (spiralAngle R L) t-most .same))
+      (sine-part R L L-to-R (sym (sine-t .same)) (sym (unitX-between (spiralAngle R L) t-most .same))))
+
+  -- p is not below zero.
+  pub p-between : Between (shiftOf R L) 0 83333333
+  unfolding shiftOf spiralY
+  p-between =
+      let part = rounded-between 1000000 5000000000 (product-between radius one-less-cosine) (omega arith) in
+      let less : pos scale -ℤ cosineOf (spiralAngle R L) ≡ pos (scale - cosine-t .value) =
+          ap (λ (z : ℤ). pos scale -ℤ z) (cosine-t .same) ∙ minus-le (cosine-t .high) in
+      difference-between Y-between part
+      (rounded-keeps-order 1000000 (omega arith)
+      (sym (part .same) ∙ ap (λ (z : ℤ). rounded (pos R *ℤ z) 1000000) less)
+      (sym (Y-between .same) ∙ ap (λ (z : ℤ). rounded (pos L *ℤ z) 1000000) (unitY-between (spiralAngle R L) t-most .same))
+      (cosine-part R L L-to-R (sym (cosine-t .same)) (sym (unitY-between (spiralAngle R L) t-most .same))))
+
+-- ---- the tangent of half the deflection, and the arc with its spirals
+
+module _ (A : ℕ) (A-most : A ≤ 432000) where
+  sine-half : Between (sineOf (halfAngle A)) 0 greatestAngle
+  sine-half =
+      widen (sine-between (halfAngle A) (half-angle-most A A-most)) (omega arith) (half-angle-most A A-most)
+
+  cosine-half : Between (cosineOf (halfAngle A)) 451688645 scale
+  cosine-half = cosine-above (halfAngle A) (half-angle-most A A-most)
+
+  pub tan-between : Between (tanOf A) 0 2318405749
+  unfolding tanOf
+  tan-between =
+      quotient-between
+      (product-between sine-half (natural scale {least = 0} {most = scale} (omega arith) (omega arith)))
+      cosine-half
+      2318405749
+      (omega arith)
+
+  turn-between : (R : ℕ) → R ≤ 5000000 → Between (rounded (pos (R * fullAngle A)) 1000000) 0 10471975510
+  turn-between R h =
+      rounded-between 1000000 10471975510
+      (product-between
+      (natural R {least = 0} {most = 5000000} (omega arith) h)
+      (natural (fullAngle A) {least = 0} {most = 2094395102} (omega arith) (full-angle-most A A-most)))
+      (omega arith)
+
 -- ---- every value of the rule
 
 -- For a curve in range: the angles, the ratios that quotients are taken of, and the elements.
@@ -107,120 +187,45 @@ pub record RuleBounds (A R L : ℕ) : Type 0 where
   pub turn : Between (rounded (pos (R * fullAngle A)) 1000000) 0 10471975510
   pub TT : Between (tangentOf A R L) 0 12300000000
 
-module _ (A R L : ℕ) (ok : CurveInRange A R L) where
-  t-most : spiralAngle R L ≤ greatestSpiralAngle
-  t-most = spiral-angle-most R L (ok .L-to-R)
-
-  sine-t : Between (sineOf (spiralAngle R L)) 0 (spiralAngle R L)
-  sine-t = sine-between (spiralAngle R L) (omega (arith, t-most))
-
-  cosine-t : Between (cosineOf (spiralAngle R L)) 451688645 scale
-  cosine-t = cosine-above (spiralAngle R L) (omega (arith, t-most))
-
-  one-less-cosine : Between (pos scale -ℤ cosineOf (spiralAngle R L)) 0 scale
-  one-less-cosine = difference-between (natural scale {least = 0} {most = scale} (omega arith) (omega arith)) cosine-t (cosine-t .high)
-
-  X-between : Between (spiralX R L) 0 500000000
-  unfolding spiralX
-  X-between =
-      rounded-between 1000000 500000000
-      (product-between (natural L {least = 0} {most = 500000} (omega arith) (ok .L-most)) (unitX-between (spiralAngle R L) t-most))
-      (omega arith)
-
-  Y-between : Between (spiralY R L) 0 83333333
-  unfolding spiralY
-  Y-between =
-      rounded-between 1000000 83333333
-      (product-between (natural L {least = 0} {most = 500000} (omega arith) (ok .L-most)) (unitY-between (spiralAngle R L) t-most))
-      (omega arith)
-
-  radius : Between (pos R) 0 5000000
-  radius = natural R (omega arith) (ok .R-most)
-
-  -- k is not below zero.
-  k-between : Between (centreOf R L) 0 500000000
-  unfolding centreOf spiralX
-  k-between =
-      let part = rounded-between 1000000 2500000000 (product-between radius sine-t) (omega (arith, t-most)) in
-      difference-between X-between part
-      (rounded-keeps-order 1000000 (omega arith)
-      (sym (part .same) ∙ ap (λ (z : ℤ). rounded (pos R *ℤ z) 1000000) (sine-t .same))
-      (sym (X-between .same) ∙ ap (λ (z : ℤ). rounded (pos L *ℤ z) 1000000) (unitX-between (spiralAngle R L) t-most .same))
-      (sine-part R L (ok .L-to-R) (sym (sine-t .same)) (sym (unitX-between (spiralAngle R L) t-most .same))))
-
-  -- p is not below zero.
-  p-between : Between (shiftOf R L) 0 83333333
-  unfolding shiftOf spiralY
-  p-between =
-      let part = rounded-between 1000000 5000000000 (product-between radius one-less-cosine) (omega arith) in
-      let less : pos scale -ℤ cosineOf (spiralAngle R L) ≡ pos (scale - cosine-t .value) =
-          ap (λ (z : ℤ). pos scale -ℤ z) (cosine-t .same) ∙ minus-le (cosine-t .high) in
-      difference-between Y-between part
-      (rounded-keeps-order 1000000 (omega arith)
-      (sym (part .same) ∙ ap (λ (z : ℤ). rounded (pos R *ℤ z) 1000000) less)
-      (sym (Y-between .same) ∙ ap (λ (z : ℤ). rounded (pos L *ℤ z) 1000000) (unitY-between (spiralAngle R L) t-most .same))
-      (cosine-part R L (ok .L-to-R) (sym (cosine-t .same)) (sym (unitY-between (spiralAngle R L) t-most .same))))
-
-  sine-half : Between (sineOf (halfAngle A)) 0 greatestAngle
-  sine-half =
-      let b = sine-between (halfAngle A) (half-angle-most A (ok .A-most)) in
-      record { value = b .value; same = b .same; low = b .low; high = omega (arith, b .high, half-angle-most A (ok .A-most)) }
-
-  cosine-half : Between (cosineOf (halfAngle A)) 451688645 scale
-  cosine-half = cosine-above (halfAngle A) (half-angle-most A (ok .A-most))
-
-  tan-between : Between (tanOf A) 0 2318405749
-  unfolding tanOf
-  tan-between =
-      quotient-between
-      (product-between sine-half (natural scale {least = 0} {most = scale} (omega arith) (omega arith)))
-      cosine-half
-      2318405749
-      (omega arith)
-
-  turn-between : Between (rounded (pos (R * fullAngle A)) 1000000) 0 10471975510
-  turn-between =
-      rounded-between 1000000 10471975510
-      (product-between radius (natural (fullAngle A) {least = 0} {most = 2094395102} (omega arith) (full-angle-most A (ok .A-most))))
-      (omega arith)
-
-  TT-between : Between (tangentOf A R L) 0 12300000000
-  unfolding tangentOf
-  TT-between =
-      sum-between k-between
-      (rounded-between scale 11800000000
-      (product-between
-      (sum-between (natural (1000 * R) {least = 0} {most = 5000000000} (omega arith) (omega (arith, ok .R-most))) p-between)
-      tan-between)
-      (omega arith))
-
-  pub bounds : RuleBounds A R L
-  bounds =
-      record
-        { full = full-angle-most A (ok .A-most)
-        ; half = half-angle-most A (ok .A-most)
-        ; t = t-most
-        ; x = unitX-between (spiralAngle R L) t-most
-        ; y = unitY-between (spiralAngle R L) t-most
-        ; sine = record { value = sine-t .value; same = sine-t .same; low = sine-t .low; high = omega (arith, sine-t .high, t-most) }
-        ; cosine = one-less-cosine
-        ; sine-half = sine-half
-        ; cosine-half = cosine-half
-        ; tan = tan-between
-        ; X = X-between
-        ; Y = Y-between
-        ; k = k-between
-        ; p = p-between
-        ; turn = turn-between
-        ; TT = TT-between
-        }
+pub bounds : (A R L : ℕ) → CurveInRange A R L → RuleBounds A R L
+unfolding tangentOf
+bounds A R L ok =
+    let Am = ok .A-most in
+    let Rm = ok .R-most in
+    let Lm = ok .L-most in
+    let LR = ok .L-to-R in
+    let t = t-most R L Rm Lm LR in
+    record
+      { full = full-angle-most A Am
+      ; half = half-angle-most A Am
+      ; t = t
+      ; x = unitX-between (spiralAngle R L) t
+      ; y = unitY-between (spiralAngle R L) t
+      ; sine = widen (sine-t R L Rm Lm LR) (omega arith) t
+      ; cosine = one-less-cosine R L Rm Lm LR
+      ; sine-half = sine-half A Am
+      ; cosine-half = cosine-half A Am
+      ; tan = tan-between A Am
+      ; X = X-between R L Rm Lm LR
+      ; Y = Y-between R L Rm Lm LR
+      ; k = k-between R L Rm Lm LR
+      ; p = p-between R L Rm Lm LR
+      ; turn = turn-between A Am R Rm
+      ; TT =
+          sum-between (k-between R L Rm Lm LR)
+          (rounded-between scale 11800000000
+          (product-between
+          (sum-between (natural (1000 * R) {least = 0} {most = 5000000000} (omega arith) (omega arith)) (p-between R L Rm Lm LR))
+          (tan-between A Am))
+          (omega arith))
+      }
 
 -- D is 1,000 µm at least where the elements are answered.
 pub arc-answered : (A R L : ℕ) → elementOutcome A R L ≡ passed → Between (arcOf A R L) 1000 10471975510
 unfolding elementOutcome arcOutcome arcOf
 arc-answered A R L e =
     let ok = curve-in-range A R L 0 (passed-left (curveOutcome A R L 0) _ e) in
-    let u = turn-between A R L ok in
+    let u = turn-between A (ok .A-most) R (ok .R-most) in
     let reached : leZ (pos 1000) (arcOf A R L) ≡ true = need-holds _ 14 0 (passed-right (curveOutcome A R L 0) _ e) in
     let far : 1000 * L + 1000 ≤ u .value =
         leb-true (1000 * L + 1000) (u .value)

@@ -3,4 +3,5 @@ pub mod Rounding
 pub mod SineAndCosine
 pub mod UnitSpiral
 pub mod Bounds
+pub mod Computed
 pub mod Examples

@@ -26,31 +26,42 @@ module _ (t : ℕ) (h : t ≤ greatestSpiralAngle) where
   unfolding t4
   t4-most = omega (arith, mul-le-mul-right (t2 t) t2-most)
 
+  -- x on natural numbers: nothing falls below zero on the way.
+  pub computed-x : {a b : ℕ} → a ≡ t * t / scale → b ≡ a * a / scale → pos (scale - a / 10 + b / 216) ≡ unitX t
+  unfolding unitX t2 t4
+  computed-x p q =
+      rw (q, p) (ap (λ (z : ℤ). z +ℤ pos (t4 t / 216)) (sym (minus-le {a = scale} {b = t2 t / 10} (omega (arith, t2-most)))))
+
   -- x is a little less than one.
   pub unitX-between : Between (unitX t) 975000000 scale
-  unfolding unitX
+  unfolding t2 t4
   unitX-between =
       record
         { value = scale - t2 t / 10 + t4 t / 216
-        ; same = rw (minus-le {a = scale} {b = t2 t / 10} (omega (arith, t2-most)))
+        ; same = sym (computed-x refl refl)
         ; low = omega (arith, t2-most)
         ; high = omega (arith, t2-most, t4-most)
         }
 
+  -- y on natural numbers.
+  pub computed-y : {a b : ℕ} → a ≡ t * t / scale → b ≡ a * t / scale → pos (t / 3 - b / 42) ≡ unitY t
+  unfolding unitY t2 t3
+  computed-y p q = rw (q, p) (sym (minus-le {a = t / 3} {b = t3 t / 42} (omega (arith, t3-most))))
+
   -- y is about a third of the angle: at the most that,
   pub unitY-between : Between (unitY t) 0 166666666
-  unfolding unitY
+  unfolding t2 t3
   unitY-between =
       record
         { value = t / 3 - t3 t / 42
-        ; same = minus-le {a = t / 3} {b = t3 t / 42} (omega (arith, t3-most))
+        ; same = sym (computed-y refl refl)
         ; low = omega arith
         ; high = omega arith
         }
 
   -- and a quarter at least, from the ninth unit on.
   pub unitY-quarter : {y : ℕ} → pos y ≡ unitY t → 9 ≤ t → t ≤ 4 * y
-  unfolding unitY
+  unfolding t2 t3
   unitY-quarter {y} e n =
-      let q : y ≡ t / 3 - t3 t / 42 = cc (minus-le {a = t / 3} {b = t3 t / 42} (omega (arith, t3-most))) in
+      let q : y ≡ t / 3 - t3 t / 42 = cc (computed-y refl refl) in
       omega (arith, t3-most)

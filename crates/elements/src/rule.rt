@@ -1,13 +1,22 @@
-// Document 01's working rule for one curve on machine numbers, for values in range.
+// Document 01's working rule for one curve on machine numbers: angles and ratios at scale 10⁹, lengths in mm, elements in µm.
 ghost use mathlib.Core.Path.{_≡_};
-ghost use Prim.Native.Nat.{_+_, _*_, _<_, _≤_};
+ghost use Prim.Native.Nat.{_+_, _*_, _/_, _<_, _≤_};
 ghost use lib.IntN.{pos};
 ghost use Rattle.line.specs.Ranges.{CurveInRange};
-ghost use Rattle.elements.specs.WorkingRule.{rounded, fullAngle, halfAngle, spiralAngle, unitX, unitY, spiralX, spiralY, centreOf, shiftOf, arcOf, tanOf, tangentOf};
-ghost use Rattle.elements.specs.Answer.{replyOf, elementReply};
+ghost use Rattle.elements.specs.WorkingRule.{scale, rounded, fullAngle, halfAngle, spiralAngle, unitX, unitY, arcOf, tanOf};
+ghost use Rattle.elements.specs.Answer.{SpiralsOf, answered, replyOf, replyTo, valuesBy, arcOutcome, elementReply};
+ghost use Rattle.elements.specs.declared.ElementAnswer.the-variants.{Found};
 use crate::series::{cosine, sine};
 use crate::{ElementAnswer, Elements};
 use line::{Refusal, Verdict};
+
+// What the radius and the spiral give alone: X, Y, k and p.
+struct Spirals {
+    x: u64,
+    y: u64,
+    centre: u64,
+    shift: u64,
+}
 
 // The rounding of an element's last division.
 fn round(product: u64, divisor: u64) -> u64
@@ -17,6 +26,130 @@ fn round(product: u64, divisor: u64) -> u64
     product / divisor
 }
 
-pub fn curve_elements(a: u32, r: u32, l: u32) -> ElementAnswer {
-    ElementAnswer::Refused(Refusal::ShortArc(0))
+// A length times a ratio, in µm.
+fn micrometres(length: u64, ratio: u64) -> u64
+    requires { ⌜ (length ≤ 5000000) × (ratio ≤ 2094395102) ⌝ }
+    ensures { λ r. ⌜ pos r ≡ rounded (pos (length * ratio)) 1000000 ⌝ }
+{
+    round(length * ratio, 1000000)
+}
+
+// The product of two angles of half a radian or less, which is half of the second at the most.
+fn angle_product(a: u64, b: u64) -> u64
+    requires { ⌜ (a ≤ 500000000) × (b ≤ 500000000) ⌝ }
+    ensures { λ r. ⌜ (r ≡ a * b / scale) × (2 * r ≤ b) ⌝ }
+{
+    a * b / 1000000000
+}
+
+fn full_angle(deflection: u64) -> u64
+    requires { ⌜ deflection ≤ 432000 ⌝ }
+    ensures { λ r. ⌜ (r ≡ fullAngle deflection) × (r ≤ 2094395102) ⌝ }
+{
+    deflection * 3141592654 / 648000
+}
+
+fn half_angle(deflection: u64) -> u64
+    requires { ⌜ deflection ≤ 432000 ⌝ }
+    ensures { λ r. ⌜ (r ≡ halfAngle deflection) × (r ≤ 1047197551) ⌝ }
+{
+    deflection * 3141592654 / 1296000
+}
+
+fn spiral_angle(radius: u64, spiral: u64) -> u64
+    requires { ⌜ (0 < radius) × (spiral ≤ 500000) × (spiral ≤ radius) ⌝ }
+    ensures { λ r. ⌜ (r ≡ spiralAngle radius spiral) × (r ≤ 500000000) ⌝ }
+{
+    spiral * 500000000 / radius
+}
+
+// x of the spiral of length one.
+fn unit_x(t: u64) -> u64
+    requires { ⌜ t ≤ 500000000 ⌝ }
+    ensures { λ r. ⌜ (pos r ≡ unitX t) × (r ≤ 1000000000) ⌝ }
+{
+    let t2 = angle_product(t, t);
+    let t4 = angle_product(t2, t2);
+    1000000000 - t2 / 10 + t4 / 216
+}
+
+// y of the spiral of length one.
+fn unit_y(t: u64) -> u64
+    requires { ⌜ t ≤ 500000000 ⌝ }
+    ensures { λ r. ⌜ (pos r ≡ unitY t) × (r ≤ 166666666) ⌝ }
+{
+    let t2 = angle_product(t, t);
+    let t3 = angle_product(t2, t);
+    t / 3 - t3 / 42
+}
+
+fn spirals_of(radius: u64, spiral: u64) -> Spirals
+    requires { ⌜ (20000 ≤ radius) × (radius ≤ 5000000) × (spiral ≤ 500000) × (spiral ≤ radius) ⌝ }
+    ensures { λ s. ⌜ SpiralsOf radius spiral s ⌝ }
+{
+    let t = spiral_angle(radius, spiral);
+    let x = micrometres(spiral, unit_x(t));
+    let y = micrometres(spiral, unit_y(t));
+    let along = micrometres(radius, sine(t));
+    let across = micrometres(radius, 1000000000 - cosine(t));
+    Spirals {
+        x,
+        y,
+        centre: x - along,
+        shift: y - across,
+    }
+}
+
+// The tangent of half the deflection.
+fn tan_half(deflection: u64) -> u64
+    requires { ⌜ deflection ≤ 432000 ⌝ }
+    ensures { λ r. ⌜ (pos r ≡ tanOf deflection) × (r ≤ 2318405749) ⌝ }
+{
+    let half = half_angle(deflection);
+    sine(half) * 1000000000 / cosine(half)
+}
+
+// The elements of a curve in range, whose arc is known.
+fn elements_of(deflection: u64, radius: u64, spiral: u64, arc: u64) -> Elements
+    requires { ⌜ CurveInRange deflection radius spiral ⌝ }
+    requires { ⌜ pos arc ≡ arcOf deflection radius spiral ⌝ }
+    ensures { λ e. ⌜ replyOf (Found e) ≡ answered (valuesBy deflection radius spiral) ⌝ }
+{
+    let s = spirals_of(radius, spiral);
+    let beyond = round((1000 * radius + s.shift) * tan_half(deflection), 1000000000);
+    Elements {
+        x: s.x,
+        y: s.y,
+        centre: s.centre,
+        shift: s.shift,
+        arc,
+        tangent: s.centre + beyond,
+    }
+}
+
+// The elements of a curve in range, or refusal 14.
+fn elements_or_short(deflection: u64, radius: u64, spiral: u64) -> ElementAnswer
+    requires { ⌜ CurveInRange deflection radius spiral ⌝ }
+    ensures { λ a. ⌜ replyOf a ≡ replyTo (arcOutcome deflection radius spiral 0) (valuesBy deflection radius spiral) ⌝ }
+{
+    let turn = micrometres(radius, full_angle(deflection));
+    let spirals = 1000 * spiral;
+    if turn < spirals + 1000 {
+        return ElementAnswer::Refused(Refusal::ShortArc(0));
+    }
+    let e = elements_of(deflection, radius, spiral, turn - spirals);
+    ElementAnswer::Found(e)
+}
+
+// The elements X, Y, k, p, D and TT of one curve by document 01's working rule (after source document 002), in µm: from the
+// deflection in seconds of arc, and the radius and the spiral length in mm. Any values are taken: the first of refusals 9, 10,
+// 11 and 14 that applies is answered, with place 0.
+pub fn curve_elements(deflection: u32, radius: u32, spiral: u32) -> ElementAnswer
+    ensures { λ a. ⌜ replyOf a ≡ elementReply deflection radius spiral ⌝ }
+{
+    let verdict = line::check_curve(deflection, radius, spiral, 0);
+    match verdict {
+        Verdict::Refused(refusal) => ElementAnswer::Refused(refusal),
+        Verdict::Pass => elements_or_short(deflection as u64, radius as u64, spiral as u64),
+    }
 }

@@ -1,0 +1,24 @@
+use mathlib.Core.Path.{refl}
+use Rattle.elements.specs.WorkingRule.{spiralAngle}
+use Rattle.elements.proofs.Bounds.{spiral-angle-most}
+use borrow.Author.Needs.{needs}
+use Rattle.elements.proofs.rule.spiral_angle.Statement.{statement}
+use Rattle.elements.proofs.rule.spiral_angle.Tie as tie
+use Rattle.elements.proofs.rule.spiral_angle.Reads as reads
+use Rattle.elements.proofs.rule.spiral_angle.Lts as lts
+
+-- src/rule.rt:63:5
+mul-result : tie.Need-mul-result
+mul-result c = search needs
+
+-- src/rule.rt:63:5
+div-result : tie.Need-div-result
+div-result c = search needs
+
+-- src/rule.rt:59:1
+returns : tie.Need-returns
+unfolding spiralAngle
+returns c = (refl, spiral-angle-most (c .args .radius) (c .args .spiral) (c .pre .2))
+
+pub spiral-angle-spec : {M : Type 1} → statement M
+spiral-angle-spec = tie.close (tie.spec mul-result div-result returns)

@@ -1,0 +1,37 @@
+use Rattle.numbers.proofs.Ranges.{at-most}
+use Rattle.elements.proofs.UnitSpiral.{computed-x, unitX-between}
+use borrow.Author.Needs.{needs}
+use Rattle.elements.proofs.rule.unit_x.Statement.{statement}
+use Rattle.elements.proofs.rule.unit_x.Tie as tie
+use Rattle.elements.proofs.rule.unit_x.Reads as reads
+use Rattle.elements.proofs.rule.unit_x.Lts as lts
+use Rattle.elements.proofs.rule.angle_product.Reads as angle-product-reads
+
+-- src/rule.rt:71:9
+angle-product-requires : tie.Need-angle-product-requires
+angle-product-requires c κs = search needs
+
+-- src/rule.rt:72:9
+angle-product-requires-2 : tie.Need-angle-product-requires-2
+angle-product-requires-2 c κs = search needs
+
+-- src/rule.rt:73:5
+sub-result : tie.Need-sub-result
+sub-result c = search needs
+
+-- src/rule.rt:73:5
+add-result : tie.Need-add-result
+add-result c = search needs
+
+-- src/rule.rt:67:1
+returns : tie.Need-returns
+returns c =
+    let t = c .before .before .args .t in
+    let h = c .before .before .pre in
+    let is = computed-x t h (c .before .angle-product .ensures .0) (c .angle-product2 .ensures .0) in
+    (is, at-most is (unitX-between t h))
+
+pub unit-x-spec : {M : Type 1} → statement M
+unit-x-spec =
+    tie.close
+    (tie.spec angle-product-requires angle-product-requires-2 sub-result add-result returns)
