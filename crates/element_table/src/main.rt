@@ -6,7 +6,7 @@
 // follows the third number is ignored. A last line without a newline counts if it has any byte.
 use elements::{ElementAnswer, Elements};
 use libc::{STDIN_FILENO, STDOUT_FILENO};
-use line::Refusal;
+use refusals::Refusal;
 
 // A line of input, as far as it has been read.
 struct Reading {

@@ -13,10 +13,10 @@ use borrow.Author.Tests.{leb-true}
 use Rattle.numbers.specs.Whole.{_÷_, Between}
 use Rattle.numbers.proofs.Differences.{minus-le, reaches}
 use Rattle.numbers.proofs.Ranges.{at-least, at-most, natural, widen, sum-between, difference-between, product-between, quotient-between}
-use Rattle.line.specs.Refusals.{passed}
+use Rattle.refusals.specs.Outcomes.{passed}
 use Rattle.line.specs.Checks.{curveOutcome}
 use Rattle.line.specs.Ranges.{CurveInRange}
-use Rattle.line.proofs.Outcomes.{passed-left, passed-right, need-holds}
+use Rattle.refusals.proofs.Joining.{passed-left, passed-right, need-holds}
 use Rattle.line.proofs.InRange.{curve-in-range}
 use Rattle.elements.specs.WorkingRule.{scale, rounded, fullAngle, halfAngle, spiralAngle, sineOf, cosineOf, unitX, unitY, spiralX, spiralY, centreOf, shiftOf, arcOf, tanOf, tangentOf}
 use Rattle.elements.specs.Answer.{arcOutcome, elementOutcome}

@@ -11,11 +11,12 @@ use borrow.Author.Tests.{lt-leb, le-leb}
 use Rattle.numbers.specs.Whole.{_÷_}
 use Rattle.numbers.proofs.Differences.{minus-le, reaches}
 use Rattle.numbers.proofs.Ranges.{natural, at-most}
-use Rattle.line.specs.Refusals.{Outcome, passed, refused, outcomeOf, numberOf, placeOf, _▹_}
+use Rattle.refusals.specs.Table.{numberOf, placeOf}
+use Rattle.refusals.specs.Outcomes.{passed, refused, outcomeOf}
 use Rattle.line.specs.Checks.{curveOutcome}
-use Rattle.line.specs.declared.refusals.Refusal.{Refusal}
-use Rattle.line.specs.declared.refusals.Verdict.{Verdict}
-use Rattle.line.specs.declared.refusals.Verdict.the-variants.{Pass, Refused}
+use Rattle.refusals.specs.declared.Refusal.{Refusal}
+use Rattle.refusals.specs.declared.Verdict.{Verdict}
+use Rattle.refusals.specs.declared.Verdict.the-variants.{Pass, Refused}
 use Rattle.elements.specs.WorkingRule.{scale, rounded, fullAngle, halfAngle, spiralAngle, sineOf, cosineOf, unitX, unitY, spiralX, spiralY, centreOf, shiftOf, arcOf, tanOf, tangentOf}
 use Rattle.elements.specs.Answer.{Reply, answered, declined, valuesBy, arcOutcome, elementOutcome, replyTo, elementReply}
 use Rattle.elements.proofs.Rounding.{rounded-between, rounded-keeps-order}

@@ -3,7 +3,8 @@ use mathlib.Core.Path.{_≡_}
 use Prim.Native.Nat.{ℕ, _≤_}
 use lib.IntN.{ℤ, pos}
 use lib.Signed.{leZ}
-use Rattle.line.specs.Refusals.{Outcome, passed, refused, numberOf, placeOf, need, _▹_}
+use Rattle.refusals.specs.Table.{numberOf, placeOf}
+use Rattle.refusals.specs.Outcomes.{Outcome, passed, refused, need, _▹_}
 use Rattle.line.specs.Checks.{curveOutcome}
 use Rattle.elements.specs.declared.rule.Spirals.{Spirals}
 use Rattle.elements.specs.declared.Elements.{Elements}

@@ -3,7 +3,7 @@ mod rule;
 mod series;
 
 pub use rule::curve_elements;
-use line::Refusal;
+use refusals::Refusal;
 
 // The elements of a curve, in µm.
 pub struct Elements {

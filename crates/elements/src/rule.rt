@@ -8,7 +8,7 @@ ghost use Rattle.elements.specs.Answer.{SpiralsOf, answered, replyOf, re
 ghost use Rattle.elements.specs.declared.ElementAnswer.the-variants.{Found};
 use crate::series::{cosine, sine};
 use crate::{ElementAnswer, Elements};
-use line::{Refusal, Verdict};
+use refusals::{Refusal, Verdict};
 
 // What the radius and the spiral give alone: X, Y, k and p.
 struct Spirals {

@@ -9,10 +9,18 @@ use lib.Arith.{le-zero}
 use lib.Dec.{leb, eqb}
 use borrow.Author.Tests.{leb-true, eqb-true, le-leb}
 use Rattle.line.specs.declared.Line.{Line}
-use Rattle.line.specs.Refusals.{Outcome, passed, need, _▹_}
+use Rattle.refusals.specs.Outcomes.{passed, need}
 use Rattle.line.specs.Checks.{_&_, within, startOutcome, headOutcome, distanceOutcome, curveOutcome, distanceAt, curveAt, bodyOutcome, lineOutcome}
 use Rattle.line.specs.Ranges.{CurveInRange, LineInRange}
-use Rattle.line.proofs.Outcomes.{passed-left, passed-right, need-holds, both-left, both-right}
+use Rattle.refusals.proofs.Joining.{passed-left, passed-right, need-holds}
+
+both-left : (a b : Bool) → a & b ≡ true → a ≡ true
+both-left true b e = refl
+both-left false b e = cc
+
+both-right : (a b : Bool) → a & b ≡ true → b ≡ true
+both-right true b e = e
+both-right false b e = cc
 
 within-least : (least most x : ℕ) → within least most x ≡ true → least ≤ x
 within-least least most x e = leb-true least x (both-left _ (leb x most) e)

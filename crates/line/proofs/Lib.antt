@@ -1,4 +1,4 @@
 -- Laws of the checks.
-pub mod Outcomes
+pub mod Walk
 pub mod InRange
 pub mod Unused

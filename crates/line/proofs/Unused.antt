@@ -3,7 +3,6 @@ use mathlib.Core.Path.{_≡_, refl, sym, _∙_, ap}
 use Prim.Native.Nat.{ℕ, zero, suc, _≤_, _<_}
 use native.Mathlib.Omega.{arith}
 use Rattle.line.specs.declared.Line.{Line}
-use Rattle.line.specs.Refusals.{Outcome, _▹_}
 use Rattle.line.specs.Checks.{headOutcome, distanceOutcome, curveOutcome, distanceAt, curveAt, bodyOutcome, lineOutcome}
 use Rattle.line.specs.Ranges.{AlikeWhereUsed}
 

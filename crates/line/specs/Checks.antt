@@ -5,7 +5,7 @@ use lib.Dec.{leb, eqb}
 use lib.ListN.{getD}
 use Rattle.line.specs.declared.Curve.{Curve}
 use Rattle.line.specs.declared.Line.{Line}
-use Rattle.line.specs.Refusals.{Outcome, need, _▹_}
+use Rattle.refusals.specs.Outcomes.{Outcome, need, _▹_}
 
 -- Both tests hold.
 infixr 30 _&_

@@ -1,10 +1,10 @@
 // The checks of a line's fields: refusals 3 to 6, then 8 to 11 in sheet order.
 ghost use mathlib.Core.Path.{_≡_};
 ghost use Prim.Native.Nat.{_≤_};
-ghost use Rattle.line.specs.Refusals.{outcomeOf, _▹_};
+ghost use Rattle.refusals.specs.Outcomes.{outcomeOf, _▹_};
 ghost use Rattle.line.specs.Checks.{_&_, within, startOutcome, headOutcome, distanceOutcome, curveOutcome, bodyOutcome, lineOutcome};
-use crate::refusals::{first, must, Refusal, Verdict};
 use crate::{Curve, Line};
+use refusals::{Refusal, Verdict, first, must};
 
 // `least` to `most`, both included.
 fn between(least: u32, most: u32, x: u32) -> bool
@@ -39,7 +39,7 @@ pub fn check_head(count: usize, speed: u32, crossfall: u32, start: u32) -> Verdi
 }
 
 // Refusal 8: the distance of an index, in mm.
-pub fn check_distance(distance: u32, index: u16) -> Verdict
+fn check_distance(distance: u32, index: u16) -> Verdict
     ensures { λ r. ⌜ outcomeOf r ≡ distanceOutcome distance index ⌝ }
 {
     must(between(1, 20000000, distance), Refusal::Distance(index))

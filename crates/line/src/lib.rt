@@ -1,15 +1,9 @@
-// The line of document 01: its fields with their units, the refusals, and the checks of its fields.
+// The line of document 01: its fields with their units, and the checks of its fields.
 mod checks;
-mod refusals;
 
 pub use checks::check_curve;
-pub use checks::check_distance;
 pub use checks::check_head;
 pub use checks::check_line;
-pub use refusals::first;
-pub use refusals::must;
-pub use refusals::Refusal;
-pub use refusals::Verdict;
 
 // A curve at an intersection point (PI), with two equal spirals or none. Any value of each type may
 // stand here; `check_curve` says which are in range.

@@ -1,5 +1,5 @@
 use mathlib.Core.Path.{sym, _∙_, ap}
-use Rattle.line.specs.Refusals.{outcomeOf}
+use Rattle.refusals.specs.Outcomes.{outcomeOf}
 use Rattle.line.proofs.InRange.{curve-in-range}
 use Rattle.elements.proofs.Computed.{reply-refused, reply-passed}
 use borrow.Author.Needs.{needs}

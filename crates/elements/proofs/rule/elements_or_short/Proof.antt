@@ -1,6 +1,6 @@
 use mathlib.Core.Path.{sym, _∙_, ap}
 use native.Mathlib.Omega.{arith}
-use Rattle.line.specs.Refusals.{Outcome}
+use Rattle.refusals.specs.Outcomes.{Outcome}
 use Rattle.elements.specs.Answer.{replyTo, valuesBy}
 use Rattle.elements.proofs.Computed.{computed-D, short-arc, long-arc}
 use borrow.Author.Needs.{needs}

@@ -2,16 +2,16 @@ use mathlib.Core.Path.{_≡_, _∙_, ap}
 use Prim.Native.Nat.{_-_, _≤_}
 use native.Mathlib.Omega.{arith}
 use borrow.Author.Needs.{needs}
-use Rattle.line.specs.Refusals.{outcomeOf}
+use Rattle.refusals.specs.Outcomes.{outcomeOf}
 use Rattle.line.specs.Checks.{bodyOutcome}
-use Rattle.line.proofs.Outcomes.{body-step}
+use Rattle.line.proofs.Walk.{body-step}
 use Rattle.line.proofs.checks.check_body.Statement.{statement}
 use Rattle.line.proofs.checks.check_body.Tie as tie
 use Rattle.line.proofs.checks.check_body.Reads as reads
 use Rattle.line.proofs.checks.check_body.Lts as lts
 use Rattle.line.proofs.checks.check_distance.Reads as check-distance-reads
 use Rattle.line.proofs.checks.check_entry.Reads as check-entry-reads
-use Rattle.line.proofs.refusals.first.Reads as first-reads
+use Rattle.refusals.proofs.first.Reads as first-reads
 
 abbrev Inv-loop : tie.InvT-loop
 Inv-loop line n d0 verdict₀ i₀ verdict i = (i ≤ n) × (outcomeOf verdict ≡ bodyOutcome line i)
@@ -25,7 +25,7 @@ element-copy-out-d0 c = search needs
 
 -- src/checks.rt:75:9
 check-distance-requires : tie.Need-check-distance-requires Inv-loop μ-loop
-check-distance-requires c κs = search needs
+check-distance-requires c κs = tt
 
 -- src/checks.rt:77:5
 loop-holds : tie.Need-loop-holds Inv-loop μ-loop
@@ -62,11 +62,11 @@ cast-check-entry c = search needs
 
 -- src/checks.rt:80:13
 check-entry-requires : tie.Need-check-entry-requires Inv-loop μ-loop
-check-entry-requires c κs = search needs
+check-entry-requires c κs = tt
 
 -- src/checks.rt:81:9
 first-requires : tie.Need-first-requires Inv-loop μ-loop
-first-requires c κs = search needs
+first-requires c κs = tt
 
 -- src/checks.rt:82:9
 add-i : tie.Need-add-i Inv-loop μ-loop

@@ -5,15 +5,15 @@ use Rattle.line.proofs.checks.check_distance.Tie as tie
 use Rattle.line.proofs.checks.check_distance.Reads as reads
 use Rattle.line.proofs.checks.check_distance.Lts as lts
 use Rattle.line.proofs.checks.between.Reads as between-reads
-use Rattle.line.proofs.refusals.must.Reads as must-reads
+use Rattle.refusals.proofs.must.Reads as must-reads
 
 -- src/checks.rt:45:10
 between-requires : tie.Need-between-requires
-between-requires c κs = search needs
+between-requires c κs = tt
 
 -- src/checks.rt:45:5
 must-requires : tie.Need-must-requires
-must-requires c κs = search needs
+must-requires c κs = tt
 
 -- src/checks.rt:42:1
 returns : tie.Need-returns

@@ -1,7 +1,7 @@
 use mathlib.Core.Path.{sym, _∙_, ap}
-use Rattle.line.specs.Refusals.{outcomeOf}
+use Rattle.refusals.specs.Outcomes.{outcomeOf}
 use Rattle.line.specs.Checks.{lineOutcome}
-use Rattle.line.proofs.Outcomes.{refused-first, passed-first}
+use Rattle.refusals.proofs.Joining.{refused-first, passed-first}
 use Rattle.line.proofs.InRange.{few-curves}
 use borrow.Author.Needs.{needs}
 use Rattle.line.proofs.checks.check_line.Statement.{statement}
@@ -13,7 +13,7 @@ use Rattle.line.proofs.checks.check_head.Reads as check-head-reads
 
 -- src/checks.rt:91:9
 check-head-requires : tie.Need-check-head-requires
-check-head-requires c κs = search needs
+check-head-requires c κs = tt
 
 enum-told : tie.Need-enum-told
 enum-told c = search needs

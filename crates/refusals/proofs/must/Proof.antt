@@ -1,8 +1,8 @@
 use borrow.Author.Needs.{needs}
-use Rattle.line.proofs.refusals.must.Statement.{statement}
-use Rattle.line.proofs.refusals.must.Tie as tie
-use Rattle.line.proofs.refusals.must.Reads as reads
-use Rattle.line.proofs.refusals.must.Lts as lts
+use Rattle.refusals.proofs.must.Statement.{statement}
+use Rattle.refusals.proofs.must.Tie as tie
+use Rattle.refusals.proofs.must.Reads as reads
+use Rattle.refusals.proofs.must.Lts as lts
 
 -- src/refusals.rt:98:1
 returns : tie.Need-returns

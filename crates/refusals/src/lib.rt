@@ -1,6 +1,7 @@
-// The refusals of document 01's table, by name, and the verdict of a check.
+// The refusals of document 01's table, by name with their places, and the verdict of a check.
 ghost use mathlib.Core.Path.{_≡_};
-ghost use Rattle.line.specs.Refusals.{numberOf, placeOf, outcomeOf, need, _▹_};
+ghost use Rattle.refusals.specs.Table.{numberOf, placeOf};
+ghost use Rattle.refusals.specs.Outcomes.{outcomeOf, need, _▹_};
 
 // A refusal with its place: the index of a distance (0 to n), the number of a curve (1 to n), or none.
 pub enum Refusal {

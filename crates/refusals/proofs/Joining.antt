@@ -1,0 +1,33 @@
+-- How outcomes join: two pass together exactly where each does, and a first refusal stays. Assumes nothing.
+use mathlib.Core.Path.{_≡_, refl, _∙_}
+use mathlib.Core.Bool.{Bool, true, false}
+use Prim.Native.Nat.{ℕ}
+use Rattle.refusals.specs.declared.Refusal.{Refusal}
+use Rattle.refusals.specs.declared.Verdict.{Verdict}
+use Rattle.refusals.specs.declared.Verdict.the-variants.{Pass, Refused}
+use Rattle.refusals.specs.Outcomes.{Outcome, passed, refused, outcomeOf, need, _▹_}
+
+pub passed-left : (a b : Outcome) → (a ▹ b) ≡ passed → a ≡ passed
+passed-left passed b e = refl
+passed-left (refused n p) b e = cc
+
+pub passed-right : (a b : Outcome) → (a ▹ b) ≡ passed → b ≡ passed
+passed-right passed b e = e
+passed-right (refused n p) b e = cc
+
+pub need-holds : (t : Bool) (n p : ℕ) → need t n p ≡ passed → t ≡ true
+need-holds true n p e = refl
+need-holds false n p e = cc
+
+-- The first refusal is the whole one.
+pub refused-first : (v : Verdict) {r : Refusal} (a b : Outcome) → v ≡ Refused r → outcomeOf v ≡ a → outcomeOf v ≡ (a ▹ b)
+refused-first v {r} a b e h = h ∙ stays v r a b e h
+  where
+    stays : (v : Verdict) (r : Refusal) (a b : Outcome) → v ≡ Refused r → outcomeOf v ≡ a → a ≡ (a ▹ b)
+    stays v r passed b e h = cc
+    stays v r (refused n p) b e h = refl
+
+-- Where the first passes, the second decides.
+pub passed-first : (v : Verdict) (a b : Outcome) → v ≡ Pass → outcomeOf v ≡ a → b ≡ (a ▹ b)
+passed-first v passed b e h = refl
+passed-first v (refused n p) b e h = cc

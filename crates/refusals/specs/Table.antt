@@ -1,0 +1,42 @@
+-- Document 01's "Refusal table": the number and the place of each refusal.
+use Prim.Native.Nat.{ℕ}
+use Rattle.refusals.specs.declared.Refusal.{Refusal}
+use Rattle.refusals.specs.declared.Refusal.the-variants.{Truncated, Edition, CurveCount, Speed, Crossfall, Start, Trailing, Distance, Deflection, Radius, Spiral, LeastRadius, LeastSpiral, ShortArc, ShortStraight, SmallBuffer}
+
+-- "Refusal table", the column No.
+abbrev pub numberOf : Refusal → ℕ
+numberOf Truncated = 1
+numberOf Edition = 2
+numberOf CurveCount = 3
+numberOf Speed = 4
+numberOf Crossfall = 5
+numberOf Start = 6
+numberOf Trailing = 7
+numberOf (Distance index) = 8
+numberOf (Deflection curve) = 9
+numberOf (Radius curve) = 10
+numberOf (Spiral curve) = 11
+numberOf (LeastRadius curve) = 12
+numberOf (LeastSpiral curve) = 13
+numberOf (ShortArc curve) = 14
+numberOf (ShortStraight index) = 15
+numberOf SmallBuffer = 16
+
+-- "the index of the distance (0 to n) for 8 and 15, the curve (1 to n) for 9 to 14, else 0"
+abbrev pub placeOf : Refusal → ℕ
+placeOf Truncated = 0
+placeOf Edition = 0
+placeOf CurveCount = 0
+placeOf Speed = 0
+placeOf Crossfall = 0
+placeOf Start = 0
+placeOf Trailing = 0
+placeOf (Distance index) = index
+placeOf (Deflection curve) = curve
+placeOf (Radius curve) = curve
+placeOf (Spiral curve) = curve
+placeOf (LeastRadius curve) = curve
+placeOf (LeastSpiral curve) = curve
+placeOf (ShortArc curve) = curve
+placeOf (ShortStraight index) = index
+placeOf SmallBuffer = 0
