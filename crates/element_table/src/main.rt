@@ -4,8 +4,10 @@
 // spaces between. Each line gives one line of output: X Y k p D TT in µm, or REFUSED, number, place. A number that is missing
 // is 0; one with another byte than a digit, or above 4,294,967,295, counts as 4,294,967,295, which every range refuses; what
 // follows the third number is ignored. A last line without a newline counts if it has any byte.
-use elements::{ElementAnswer, Elements};
-use libc::{STDIN_FILENO, STDOUT_FILENO};
+use elements::ElementAnswer;
+use elements::Elements;
+use libc::STDIN_FILENO;
+use libc::STDOUT_FILENO;
 use refusals::Refusal;
 
 // A line of input, as far as it has been read.

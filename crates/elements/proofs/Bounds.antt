@@ -51,21 +51,23 @@ pub sine-part : (R L : ℕ) {s x : ℕ} → L ≤ R → pos s ≡ sineOf (spiral
 sine-part R L {s} {x} h es ex =
     let m = spiral-angle-most R L h in
     let low : 500000000 ≤ x = omega (arith, at-least ex (unitX-between (spiralAngle R L) m)) in
-    omega
-      ( arith
-      , mul-le-mul-left R (at-most es (sine-between (spiralAngle R L) (omega arith)))
-      , angle-by-radius R L
-      , mul-le-mul-left L low)
+    omega (
+      arith,
+      mul-le-mul-left R (at-most es (sine-between (spiralAngle R L) (omega arith))),
+      angle-by-radius R L,
+      mul-le-mul-left L low,
+    )
 
 -- R × (10⁹ − cosine(t)) is at most L × y: 10⁹ less the cosine is at most half the square, and y a quarter of the angle at least.
 half-square : (R L t z u y : ℕ) → 2 * u ≤ z → scale * z ≤ t * t → R * t ≤ L * 500000000 → t ≤ 4 * y → R * u ≤ L * y
 half-square R L t z u y a b d e =
-    omega
-      ( arith
-      , simp products at (mul-le-mul-left R a)
-      , simp products at (mul-le-mul-left R b)
-      , simp products at (mul-le-mul-right t d)
-      , simp products at (mul-le-mul-left L e))
+    omega (
+      arith,
+      simp products at (mul-le-mul-left R a),
+      simp products at (mul-le-mul-left R b),
+      simp products at (mul-le-mul-right t d),
+      simp products at (mul-le-mul-left L e),
+    )
 
 pub cosine-part : (R L : ℕ) {c y : ℕ} → L ≤ R → pos c ≡ cosineOf (spiralAngle R L) → pos y ≡ unitY (spiralAngle R L) → R * (scale - c) ≤ L * y
 cosine-part R L {c} {y} h ec ey = go (decLe 9 (spiralAngle R L))
@@ -83,7 +85,7 @@ cosine-part R L {c} {y} h ec ey = go (decLe 9 (spiralAngle R L))
     go (no n) =
         let small : spiralAngle R L ≤ 8 = omega arith in
         let none : scale - c ≡ 0 =
-            omega (arith, at-least ec (cosine-between (spiralAngle R L) (omega (arith, m))), mul-le-mul small small) in
+        omega (arith, at-least ec (cosine-between (spiralAngle R L) (omega (arith, m))), mul-le-mul small small) in
         rw (none, mul-zero) (omega arith)
 
 -- ---- the elements of the spirals
@@ -132,7 +134,7 @@ module _ (R L : ℕ) (R-most : R ≤ 5000000) (L-most : L ≤ 500000) (L-to-R : 
   p-between =
       let part = rounded-between 1000000 5000000000 (product-between radius one-less-cosine) (omega arith) in
       let less : pos scale -ℤ cosineOf (spiralAngle R L) ≡ pos (scale - cosine-t .value) =
-          ap (λ (z : ℤ). pos scale -ℤ z) (cosine-t .same) ∙ minus-le (cosine-t .high) in
+      ap (λ (z : ℤ). pos scale -ℤ z) (cosine-t .same) ∙ minus-le (cosine-t .high) in
       difference-between Y-between part
       (rounded-keeps-order 1000000 (omega arith)
       (sym (part .same) ∙ ap (λ (z : ℤ). rounded (pos R *ℤ z) 1000000) less)
@@ -195,30 +197,30 @@ bounds A R L ok =
     let Lm = ok .L-most in
     let LR = ok .L-to-R in
     let t = t-most R L Rm Lm LR in
-    record
-      { full = full-angle-most A Am
-      ; half = half-angle-most A Am
-      ; t = t
-      ; x = unitX-between (spiralAngle R L) t
-      ; y = unitY-between (spiralAngle R L) t
-      ; sine = widen (sine-t R L Rm Lm LR) (omega arith) t
-      ; cosine = one-less-cosine R L Rm Lm LR
-      ; sine-half = sine-half A Am
-      ; cosine-half = cosine-half A Am
-      ; tan = tan-between A Am
-      ; X = X-between R L Rm Lm LR
-      ; Y = Y-between R L Rm Lm LR
-      ; k = k-between R L Rm Lm LR
-      ; p = p-between R L Rm Lm LR
-      ; turn = turn-between A Am R Rm
-      ; TT =
+    record {
+      full = full-angle-most A Am;
+      half = half-angle-most A Am;
+      t = t;
+      x = unitX-between (spiralAngle R L) t;
+      y = unitY-between (spiralAngle R L) t;
+      sine = widen (sine-t R L Rm Lm LR) (omega arith) t;
+      cosine = one-less-cosine R L Rm Lm LR;
+      sine-half = sine-half A Am;
+      cosine-half = cosine-half A Am;
+      tan = tan-between A Am;
+      X = X-between R L Rm Lm LR;
+      Y = Y-between R L Rm Lm LR;
+      k = k-between R L Rm Lm LR;
+      p = p-between R L Rm Lm LR;
+      turn = turn-between A Am R Rm;
+      TT =
           sum-between (k-between R L Rm Lm LR)
           (rounded-between scale 11800000000
           (product-between
           (sum-between (natural (1000 * R) {least = 0} {most = 5000000000} (omega arith) (omega arith)) (p-between R L Rm Lm LR))
           (tan-between A Am))
-          (omega arith))
-      }
+          (omega arith));
+    }
 
 -- D is 1,000 µm at least where the elements are answered.
 pub arc-answered : (A R L : ℕ) → elementOutcome A R L ≡ passed → Between (arcOf A R L) 1000 10471975510
@@ -228,7 +230,7 @@ arc-answered A R L e =
     let u = turn-between A (ok .A-most) R (ok .R-most) in
     let reached : leZ (pos 1000) (arcOf A R L) ≡ true = need-holds _ 14 0 (passed-right (curveOutcome A R L 0) _ e) in
     let far : 1000 * L + 1000 ≤ u .value =
-        leb-true (1000 * L + 1000) (u .value)
-        (sym (reaches (u .value) (1000 * L) 1000) ∙ ap (λ (z : ℤ). leZ (pos 1000) (z -ℤ pos (1000 * L))) (sym (u .same)) ∙ reached) in
+    leb-true (1000 * L + 1000) (u .value)
+    (sym (reaches (u .value) (1000 * L) 1000) ∙ ap (λ (z : ℤ). leZ (pos 1000) (z -ℤ pos (1000 * L))) (sym (u .same)) ∙ reached) in
     rw (u .same, minus-le {a = u .value} {b = 1000 * L} (omega arith))
     (natural (u .value - 1000 * L) (omega arith) (omega (arith, u .high)))

@@ -21,15 +21,15 @@ pub record Examples : Type 0 where
 pub examples : Examples
 unfolding curveOutcome rounded fullAngle halfAngle spiralAngle term alternating sineOf cosineOf t2 t3 t4 unitX unitY spiralX spiralY centreOf shiftOf arcOf tanOf tangentOf valuesBy arcOutcome elementOutcome elementReply
 examples =
-    record
-      { case-1 = refl
-      ; case-6 = refl
-      ; case-7 = refl
-      ; case-7-refused = refl
-      ; case-8 = refl
-      ; case-8-short = refl
-      ; case-8-refused = refl
-      }
+    record {
+      case-1 = refl;
+      case-6 = refl;
+      case-7 = refl;
+      case-7-refused = refl;
+      case-8 = refl;
+      case-8-short = refl;
+      case-8-refused = refl;
+    }
 
 -- Case 11: "L 0: X, Y, k, p are all 0.", at every radius.
 pub record WithoutSpirals (R : ℕ) : Type 0 where
@@ -41,9 +41,9 @@ pub record WithoutSpirals (R : ℕ) : Type 0 where
 pub without-spirals : (R : ℕ) → WithoutSpirals R
 unfolding rounded spiralAngle term alternating sineOf cosineOf t2 t3 t4 unitX unitY spiralX spiralY centreOf shiftOf
 without-spirals R =
-    record
-      { X = rw (zero-div R)
-      ; Y = rw (zero-div R)
-      ; k = rw (zero-div R, mul-zero R)
-      ; p = rw (zero-div R, mul-zero R)
-      }
+    record {
+      X = rw (zero-div R);
+      Y = rw (zero-div R);
+      k = rw (zero-div R, mul-zero R);
+      p = rw (zero-div R, mul-zero R);
+    }

@@ -30,7 +30,7 @@ module _ (t : ℕ → ℕ) (h1 : t 1 ≤ t 0) (h2 : t 2 ≤ t 1) (h3 : t 3 ≤ t
   pub falling-between : Between (alternating t 6) (t 0 - t 1) (t 0)
   falling-between =
       record
-        { value = t 0 + t 2 + t 4 + t 6 - (t 1 + t 3 + t 5); same = seven-terms; low = omega arith; high = omega arith }
+      { value = t 0 + t 2 + t 4 + t 6 - (t 1 + t 3 + t 5); same = seven-terms; low = omega arith; high = omega arith }
 
 -- The same sum, of terms that were computed one after the other.
 pub computed-series : (divisor : ℕ → ℕ) (first z : ℕ) {t1 t2 t3 t4 t5 t6 d1 d2 d3 d4 d5 d6 : ℕ}
@@ -49,13 +49,13 @@ computed-series divisor first z {t1} {t2} {t3} {t4} {t5} {t6} n1 n2 n3 n4 n5 n6 
     let q6 : t6 ≡ t 6 = n6 .0 ∙ rw (q5, e6) in
     ap pos (rw (q1, q2, q3, q4, q5, q6))
     ∙ sym
-      (seven-terms t
-      (omega (arith, q1, n1 .1))
-      (omega (arith, q1, q2, n2 .1))
-      (omega (arith, q2, q3, n3 .1))
-      (omega (arith, q3, q4, n4 .1))
-      (omega (arith, q4, q5, n5 .1))
-      (omega (arith, q5, q6, n6 .1)))
+    (seven-terms t
+    (omega (arith, q1, n1 .1))
+    (omega (arith, q1, q2, n2 .1))
+    (omega (arith, q2, q3, n3 .1))
+    (omega (arith, q3, q4, n4 .1))
+    (omega (arith, q4, q5, n5 .1))
+    (omega (arith, q5, q6, n6 .1)))
 
 pub series-between : (divisor : ℕ → ℕ) (first z : ℕ) → ((j : ℕ) → z ≤ scale * divisor (suc j))
     → Between (alternating (term divisor first z) 6) (first - first * z / (scale * divisor 1)) first
@@ -78,7 +78,7 @@ sine-between q h =
     falls : (j : ℕ) → q * q / scale ≤ scale * (2 * suc j * (2 * suc j + 1))
     falls j =
         omega
-          (arith, square-most q h, mul-le-mul {n₁ = 2} {m₁ = 1} {n₂ = 2 * suc j} {m₂ = 2 * suc j + 1} (omega arith) (omega arith))
+        (arith, square-most q h, mul-le-mul {n₁ = 2} {m₁ = 1} {n₂ = 2 * suc j} {m₂ = 2 * suc j + 1} (omega arith) (omega arith))
 
 pub cosine-between : (q : ℕ) → q ≤ greatestAngle → Between (cosineOf q) (scale - scale * (q * q / scale) / (scale * 2)) scale
 unfolding cosineOf
@@ -87,7 +87,7 @@ cosine-between q h = series-between (λ j. (2 * j - 1) * (2 * j)) scale (q * q /
     falls : (j : ℕ) → q * q / scale ≤ scale * ((2 * suc j - 1) * (2 * suc j))
     falls j =
         omega
-          (arith, square-most q h, mul-le-mul {n₁ = 1} {m₁ = 2} {n₂ = 2 * suc j - 1} {m₂ = 2 * suc j} (omega arith) (omega arith))
+        (arith, square-most q h, mul-le-mul {n₁ = 1} {m₁ = 2} {n₂ = 2 * suc j - 1} {m₂ = 2 * suc j} (omega arith) (omega arith))
 
 -- The cosine of a half angle stays above 0.45.
 pub cosine-above : (q : ℕ) → q ≤ greatestAngle → Between (cosineOf q) 451688645 scale

@@ -36,12 +36,12 @@ module _ (t : ℕ) (h : t ≤ greatestSpiralAngle) where
   pub unitX-between : Between (unitX t) 975000000 scale
   unfolding t2 t4
   unitX-between =
-      record
-        { value = scale - t2 t / 10 + t4 t / 216
-        ; same = sym (computed-x refl refl)
-        ; low = omega (arith, t2-most)
-        ; high = omega (arith, t2-most, t4-most)
-        }
+      record {
+        value = scale - t2 t / 10 + t4 t / 216;
+        same = sym (computed-x refl refl);
+        low = omega (arith, t2-most);
+        high = omega (arith, t2-most, t4-most);
+      }
 
   -- y on natural numbers.
   pub computed-y : {a b : ℕ} → a ≡ t * t / scale → b ≡ a * t / scale → pos (t / 3 - b / 42) ≡ unitY t
@@ -52,12 +52,12 @@ module _ (t : ℕ) (h : t ≤ greatestSpiralAngle) where
   pub unitY-between : Between (unitY t) 0 166666666
   unfolding t2 t3
   unitY-between =
-      record
-        { value = t / 3 - t3 t / 42
-        ; same = sym (computed-y refl refl)
-        ; low = omega arith
-        ; high = omega arith
-        }
+      record {
+        value = t / 3 - t3 t / 42;
+        same = sym (computed-y refl refl);
+        low = omega arith;
+        high = omega arith;
+      }
 
   -- and a quarter at least, from the ninth unit on.
   pub unitY-quarter : {y : ℕ} → pos y ≡ unitY t → 9 ≤ t → t ≤ 4 * y

@@ -30,27 +30,27 @@ pub data Reply : Type 0 where
 abbrev pub replyOf : ElementAnswer → Reply
 replyOf (Found e) =
     answered
-      (record
-        { X = pos (e .x)
-        ; Y = pos (e .y)
-        ; k = pos (e .centre)
-        ; p = pos (e .shift)
-        ; D = pos (e .arc)
-        ; TT = pos (e .tangent)
-        })
+    (record {
+      X = pos (e .x);
+      Y = pos (e .y);
+      k = pos (e .centre);
+      p = pos (e .shift);
+      D = pos (e .arc);
+      TT = pos (e .tangent);
+    })
 replyOf (Refused r) = declined (numberOf r) (placeOf r)
 
 -- The six values by the working rule.
 unfoldable pub valuesBy : ℕ → ℕ → ℕ → Values
 valuesBy A R L =
-    record
-      { X = spiralX R L
-      ; Y = spiralY R L
-      ; k = centreOf R L
-      ; p = shiftOf R L
-      ; D = arcOf A R L
-      ; TT = tangentOf A R L
-      }
+    record {
+      X = spiralX R L;
+      Y = spiralY R L;
+      k = centreOf R L;
+      p = shiftOf R L;
+      D = arcOf A R L;
+      TT = tangentOf A R L;
+    }
 
 -- 14: "arc D under 1,000 µm"
 unfoldable pub arcOutcome : ℕ → ℕ → ℕ → ℕ → Outcome

@@ -2,8 +2,8 @@
 mod rule;
 mod series;
 
-pub use rule::curve_elements;
 use refusals::Refusal;
+pub use rule::curve_elements;
 
 // The elements of a curve, in µm.
 pub struct Elements {

@@ -6,9 +6,12 @@ ghost use Rattle.line.specs.Ranges.{CurveInRange};
 ghost use Rattle.elements.specs.WorkingRule.{scale, rounded, fullAngle, halfAngle, spiralAngle, unitX, unitY, arcOf, tanOf};
 ghost use Rattle.elements.specs.Answer.{SpiralsOf, answered, replyOf, replyTo, valuesBy, arcOutcome, elementReply};
 ghost use Rattle.elements.specs.declared.ElementAnswer.the-variants.{Found};
-use crate::series::{cosine, sine};
-use crate::{ElementAnswer, Elements};
-use refusals::{Refusal, Verdict};
+use crate::ElementAnswer;
+use crate::Elements;
+use crate::series::cosine;
+use crate::series::sine;
+use refusals::Refusal;
+use refusals::Verdict;
 
 // What the radius and the spiral give alone: X, Y, k and p.
 struct Spirals {

@@ -37,25 +37,26 @@ curve-in-range A R L place h =
     let h₁ = passed-right (need (within 1 432000 A) 9 place) _ h in
     let r = need-holds _ 10 place (passed-left (need (within 20000 5000000 R) 10 place) _ h₁) in
     let l = need-holds (leb L 500000 & leb L R) 11 place (passed-right (need (within 20000 5000000 R) 10 place) _ h₁) in
-    record
-      { A-least = within-least 1 432000 A a
-      ; A-most = within-most 1 432000 A a
-      ; R-least = within-least 20000 5000000 R r
-      ; R-most = within-most 20000 5000000 R r
-      ; L-most = leb-true L 500000 (both-left _ (leb L R) l)
-      ; L-to-R = leb-true L R (both-right (leb L 500000) _ l)
-      }
+    record {
+      A-least = within-least 1 432000 A a;
+      A-most = within-most 1 432000 A a;
+      R-least = within-least 20000 5000000 R r;
+      R-most = within-most 20000 5000000 R r;
+      L-most = leb-true L 500000 (both-left _ (leb L R) l);
+      L-to-R = leb-true L R (both-right (leb L 500000) _ l);
+    }
 
 pub curve-passes : (A R L place : ℕ) → CurveInRange A R L → curveOutcome A R L place ≡ passed
 unfolding curveOutcome
 curve-passes A R L place k =
-    rw
-      ( le-leb 1 A (k .A-least)
-      , le-leb A 432000 (k .A-most)
-      , le-leb 20000 R (k .R-least)
-      , le-leb R 5000000 (k .R-most)
-      , le-leb L 500000 (k .L-most)
-      , le-leb L R (k .L-to-R))
+    rw (
+      le-leb 1 A (k .A-least),
+      le-leb A 432000 (k .A-most),
+      le-leb 20000 R (k .R-least),
+      le-leb R 5000000 (k .R-most),
+      le-leb L 500000 (k .L-most),
+      le-leb L R (k .L-to-R),
+    )
 
 -- ---- the distances and curves of a line
 
@@ -108,15 +109,15 @@ line-in-range l h =
     let h₂ = passed-right (need (within 40 120 v & eqb (v % 10) 0) 4 0) _ h₁ in
     let fall = need-holds (within 2 12 e) 5 0 (passed-left (need (within 2 12 e) 5 0) _ h₂) in
     let start = need-holds (leb (l .start) 200000000) 6 0 (passed-right (need (within 2 12 e) 5 0) _ h₂) in
-    record
-      { few = few-curves n v e (l .start) head
-      ; speed-least = within-least 40 120 v (both-left _ (eqb (v % 10) 0) speed)
-      ; speed-most = within-most 40 120 v (both-left _ (eqb (v % 10) 0) speed)
-      ; speed-tens = eqb-true (v % 10) 0 (both-right (within 40 120 v) _ speed)
-      ; crossfall-least = within-least 2 12 e fall
-      ; crossfall-most = within-most 2 12 e fall
-      ; start-most = leb-true (l .start) 200000000 start
-      ; distance-least = λ i m. within-least 1 20000000 (distanceAt l i) (last-distance l i (body-below l n i m body))
-      ; distance-most = λ i m. within-most 1 20000000 (distanceAt l i) (last-distance l i (body-below l n i m body))
-      ; curve = λ i m. last-curve l i (body-below l n (suc i) m body)
-      }
+    record {
+      few = few-curves n v e (l .start) head;
+      speed-least = within-least 40 120 v (both-left _ (eqb (v % 10) 0) speed);
+      speed-most = within-most 40 120 v (both-left _ (eqb (v % 10) 0) speed);
+      speed-tens = eqb-true (v % 10) 0 (both-right (within 40 120 v) _ speed);
+      crossfall-least = within-least 2 12 e fall;
+      crossfall-most = within-most 2 12 e fall;
+      start-most = leb-true (l .start) 200000000 start;
+      distance-least = λ i m. within-least 1 20000000 (distanceAt l i) (last-distance l i (body-below l n i m body));
+      distance-most = λ i m. within-most 1 20000000 (distanceAt l i) (last-distance l i (body-below l n i m body));
+      curve = λ i m. last-curve l i (body-below l n (suc i) m body);
+    }

@@ -11,12 +11,13 @@ module _ (l m : Line) (alike : AlikeWhereUsed l m) where
   unfolding bodyOutcome
   same-body zero h = rw (alike .distance 0 h)
   same-body (suc i) h =
-      rw
-        ( same-body i (omega arith)
-        , alike .deflection i h
-        , alike .radius i h
-        , alike .spiral i h
-        , alike .distance (suc i) h)
+      rw (
+        same-body i (omega arith),
+        alike .deflection i h,
+        alike .radius i h,
+        alike .spiral i h,
+        alike .distance (suc i) h,
+      )
 
   pub unused-ignored : lineOutcome l ≡ lineOutcome m
   unfolding lineOutcome

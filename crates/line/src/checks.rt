@@ -3,8 +3,12 @@ ghost use mathlib.Core.Path.{_≡_};
 ghost use Prim.Native.Nat.{_≤_};
 ghost use Rattle.refusals.specs.Outcomes.{outcomeOf, _▹_};
 ghost use Rattle.line.specs.Checks.{_&_, within, startOutcome, headOutcome, distanceOutcome, curveOutcome, bodyOutcome, lineOutcome};
-use crate::{Curve, Line};
-use refusals::{Refusal, Verdict, first, must};
+use crate::Curve;
+use crate::Line;
+use refusals::Refusal;
+use refusals::Verdict;
+use refusals::first;
+use refusals::must;
 
 // `least` to `most`, both included.
 fn between(least: u32, most: u32, x: u32) -> bool
@@ -32,7 +36,10 @@ pub fn check_head(count: usize, speed: u32, crossfall: u32, start: u32) -> Verdi
     ensures { λ r. ⌜ outcomeOf r ≡ headOutcome count speed crossfall start ⌝ }
 {
     let n = must(count <= 64, Refusal::CurveCount);
-    let v = must(both(between(40, 120, speed), speed % 10 == 0), Refusal::Speed);
+    let v = must(
+        both(between(40, 120, speed), speed % 10 == 0),
+        Refusal::Speed,
+    );
     let e = must(between(2, 12, crossfall), Refusal::Crossfall);
     let s = check_start(start);
     first(n, first(v, first(e, s)))
@@ -52,7 +59,10 @@ pub fn check_curve(deflection: u32, radius: u32, spiral: u32, place: u16) -> Ver
 {
     let a = must(between(1, 432000, deflection), Refusal::Deflection(place));
     let r = must(between(20000, 5000000, radius), Refusal::Radius(place));
-    let l = must(both(spiral <= 500000, spiral <= radius), Refusal::Spiral(place));
+    let l = must(
+        both(spiral <= 500000, spiral <= radius),
+        Refusal::Spiral(place),
+    );
     first(a, first(r, l))
 }
 

@@ -41,5 +41,5 @@ module _ {a b : ℤ} {l h l′ h′ : ℕ} (u : Between a l h) (v : Between b l�
   pub quotient-between : (most : ℕ) → h ≤ l′ * most → Between (a ÷ b) 0 most
   quotient-between most o =
       rw (u .same, v .same)
-        (natural (u .value / v .value) (omega arith)
-        (div-le-of-le-mul (v .value) (omega (arith, u .high, mul-le-mul-right most (v .low)))))
+      (natural (u .value / v .value) (omega arith)
+      (div-le-of-le-mul (v .value) (omega (arith, u .high, mul-le-mul-right most (v .low)))))

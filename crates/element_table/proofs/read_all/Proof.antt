@@ -1,10 +1,7 @@
+-- `read_all` is safe and ends: the turns that are left fall. Assumes nothing.
 use borrow.Author.Needs.{needs}
 use Rattle.element_table.proofs.read_all.Statement.{statement}
 use Rattle.element_table.proofs.read_all.Tie as tie
-use Rattle.element_table.proofs.read_all.Reads as reads
-use Rattle.element_table.proofs.read_all.Lts as lts
-use Rattle.element_table.proofs.blank.Reads as blank-reads
-use Rattle.element_table.proofs.read_chunk.Reads as read-chunk-reads
 
 abbrev Inv-loop : tie.InvT-loop
 Inv-loop reading₀ turns₀ reading turns = Unit {0}
@@ -12,35 +9,27 @@ Inv-loop reading₀ turns₀ reading turns = Unit {0}
 abbrev μ-loop : tie.MeasureT-loop
 μ-loop reading₀ turns₀ reading turns = turns
 
--- src/main.rt:147:9
 blank-requires : tie.Need-blank-requires Inv-loop μ-loop
 blank-requires c κs = search needs
 
--- src/main.rt:149:5
 loop-holds : tie.Need-loop-holds Inv-loop μ-loop
 loop-holds c = search needs
 
--- src/main.rt:150:13
 read-chunk-requires : tie.Need-read-chunk-requires Inv-loop μ-loop
 read-chunk-requires c κs = search needs
 
--- src/main.rt:153:13
 returns : tie.Need-returns Inv-loop μ-loop
 returns c = search needs
 
--- src/main.rt:155:9
 sub-turns : tie.Need-sub-turns Inv-loop μ-loop
 sub-turns c = search needs
 
--- src/main.rt:149:5
 loop-less : tie.Need-loop-less Inv-loop μ-loop
 loop-less c = search needs
 
--- src/main.rt:149:5
 loop-again : tie.Need-loop-again Inv-loop μ-loop
 loop-again c = search needs
 
--- src/main.rt:146:1
 returns-2 : tie.Need-returns-2 Inv-loop μ-loop
 returns-2 c = search needs
 

@@ -1,14 +1,11 @@
+-- `must`: the refusal is answered where the test fails. Assumes nothing.
 use borrow.Author.Needs.{needs}
 use Rattle.refusals.proofs.must.Statement.{statement}
 use Rattle.refusals.proofs.must.Tie as tie
-use Rattle.refusals.proofs.must.Reads as reads
-use Rattle.refusals.proofs.must.Lts as lts
 
--- src/refusals.rt:98:1
 returns : tie.Need-returns
 returns c = search needs
 
--- src/refusals.rt:98:1
 returns-2 : tie.Need-returns-2
 returns-2 c = rw (c .if1 .left)
 

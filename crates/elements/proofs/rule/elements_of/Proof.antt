@@ -1,3 +1,4 @@
+-- `elements_of`: the product (1,000 R + p) × tan fits 64 bits, and the six values are the rule's. Assumes nothing.
 use Prim.Native.Nat.{_+_, _*_}
 use native.Mathlib.Nat.{mul-le-mul}
 use native.Mathlib.Omega.{arith}
@@ -5,49 +6,36 @@ use Rattle.elements.proofs.Computed.{beyond-most, computed-TT, computed
 use borrow.Author.Needs.{needs}
 use Rattle.elements.proofs.rule.elements_of.Statement.{statement}
 use Rattle.elements.proofs.rule.elements_of.Tie as tie
-use Rattle.elements.proofs.rule.elements_of.Reads as reads
-use Rattle.elements.proofs.rule.elements_of.Lts as lts
-use Rattle.elements.proofs.rule.round.Reads as round-reads
-use Rattle.elements.proofs.rule.spirals_of.Reads as spirals-of-reads
-use Rattle.elements.proofs.rule.tan_half.Reads as tan-half-reads
 
--- src/rule.rt:118:9
 spirals-of-requires : tie.Need-spirals-of-requires
 spirals-of-requires c κs = search needs
 
--- src/rule.rt:119:25
 mul-round : tie.Need-mul-round
 mul-round c = search needs
 
--- src/rule.rt:119:25
 add-round : tie.Need-add-round
 add-round c = search needs
 
--- src/rule.rt:119:52
 tan-half-requires : tie.Need-tan-half-requires
 tan-half-requires c κs = search needs
 
--- src/rule.rt:119:24
 mul-round-2 : tie.Need-mul-round-2
 mul-round-2 c =
     let p = c .before .before .spirals-of .ensures .p-most in
     let R = c .before .before .before .pre .0 .R-most in
     omega
-      (arith, mul-le-mul {n₁ = 1000 * c .before .before .before .args .radius + c .before .before .spirals-of .result .shift} {n₂ = 5083333333} (omega arith) (c .tan-half .ensures .1))
+    (arith, mul-le-mul {n₁ = 1000 * c .before .before .before .args .radius + c .before .before .spirals-of .result .shift} {n₂ = 5083333333} (omega arith) (c .tan-half .ensures .1))
 
--- src/rule.rt:119:9
 round-requires : tie.Need-round-requires
 round-requires c κs = search needs
 
--- src/rule.rt:126:18
 add-t7 : tie.Need-add-t7
 add-t7 c =
     let s = c .before .before .before .before .spirals-of in
     let ok = c .before .before .before .before .before .pre .0 in
     omega
-      (arith, s .ensures .k-most, beyond-most _ _ _ _ (ok .R-most) (s .ensures .p-most) (c .before .before .tan-half .ensures .1) (c .before .round .ensures))
+    (arith, s .ensures .k-most, beyond-most _ _ _ _ (ok .R-most) (s .ensures .p-most) (c .before .before .tan-half .ensures .1) (c .before .round .ensures))
 
--- src/rule.rt:113:1
 returns : tie.Need-returns
 returns c =
     let start = c .before .before .before .before .before in

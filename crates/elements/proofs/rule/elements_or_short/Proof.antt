@@ -1,3 +1,4 @@
+-- `elements_or_short`: D reaches 1,000 exactly where the turn reaches the spirals and 1,000. Assumes nothing.
 use mathlib.Core.Path.{sym, _∙_, ap}
 use native.Mathlib.Omega.{arith}
 use Rattle.refusals.specs.Outcomes.{Outcome}
@@ -6,52 +7,39 @@ use Rattle.elements.proofs.Computed.{computed-D, short-arc, long-arc}
 use borrow.Author.Needs.{needs}
 use Rattle.elements.proofs.rule.elements_or_short.Statement.{statement}
 use Rattle.elements.proofs.rule.elements_or_short.Tie as tie
-use Rattle.elements.proofs.rule.elements_or_short.Reads as reads
-use Rattle.elements.proofs.rule.elements_or_short.Lts as lts
-use Rattle.elements.proofs.rule.elements_of.Reads as elements-of-reads
-use Rattle.elements.proofs.rule.full_angle.Reads as full-angle-reads
-use Rattle.elements.proofs.rule.micrometres.Reads as micrometres-reads
 
--- src/rule.rt:135:36
 full-angle-requires : tie.Need-full-angle-requires
 full-angle-requires c κs = search needs
 
--- src/rule.rt:135:9
 micrometres-requires : tie.Need-micrometres-requires
 micrometres-requires c κs = search needs
 
--- src/rule.rt:136:19
 mul-spirals : tie.Need-mul-spirals
 mul-spirals c = search needs
 
--- src/rule.rt:137:15
 add-if1 : tie.Need-add-if1
 add-if1 c = search needs
 
--- src/rule.rt:138:9
 returns : tie.Need-returns
 returns c =
     let start = c .before .before .before in
     ap (λ (o : Outcome). replyTo o (valuesBy (start .args .deflection) (start .args .radius) (start .args .spiral)))
     (sym (short-arc (start .args .deflection) (start .args .radius) (start .args .spiral) (c .before .before .full-angle .ensures .0) (c .before .micrometres .ensures) 0 (c .if1 .taken)))
 
--- src/rule.rt:140:53
 sub-elements-of : tie.Need-sub-elements-of
 sub-elements-of c = search needs
 
--- src/rule.rt:140:9
 elements-of-requires : tie.Need-elements-of-requires
 elements-of-requires c κs =
     let start = c .before .before .before in
     (start .pre, computed-D (start .args .deflection) (start .args .radius) (start .args .spiral) (c .before .before .full-angle .ensures .0) (c .before .micrometres .ensures) (omega arith))
 
--- src/rule.rt:131:1
 returns-2 : tie.Need-returns-2
 returns-2 c =
     let start = c .before .before .before .before in
     c .elements-of .ensures
     ∙ ap (λ (o : Outcome). replyTo o (valuesBy (start .args .deflection) (start .args .radius) (start .args .spiral)))
-      (sym (long-arc (start .args .deflection) (start .args .radius) (start .args .spiral) (c .before .before .before .full-angle .ensures .0) (c .before .before .micrometres .ensures) 0 (c .before .if1 .left)))
+    (sym (long-arc (start .args .deflection) (start .args .radius) (start .args .spiral) (c .before .before .before .full-angle .ensures .0) (c .before .before .micrometres .ensures) 0 (c .before .if1 .left)))
 
 pub elements-or-short-spec : {M : Type 1} → statement M
 elements-or-short-spec =

@@ -1,16 +1,13 @@
+-- `round`: the machine's quotient is the rule's rounding. Assumes nothing.
 use mathlib.Core.Path.{refl}
 use Rattle.elements.specs.WorkingRule.{rounded}
 use borrow.Author.Needs.{needs}
 use Rattle.elements.proofs.rule.round.Statement.{statement}
 use Rattle.elements.proofs.rule.round.Tie as tie
-use Rattle.elements.proofs.rule.round.Reads as reads
-use Rattle.elements.proofs.rule.round.Lts as lts
 
--- src/rule.rt:17:5
 div-result : tie.Need-div-result
 div-result c = search needs
 
--- src/rule.rt:13:1
 returns : tie.Need-returns
 unfolding rounded
 returns c = refl

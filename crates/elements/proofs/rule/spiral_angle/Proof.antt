@@ -1,21 +1,17 @@
+-- `spiral_angle`: the definition, and its greatest value, since L is at most R. Assumes nothing.
 use mathlib.Core.Path.{refl}
 use Rattle.elements.specs.WorkingRule.{spiralAngle}
 use Rattle.elements.proofs.Bounds.{spiral-angle-most}
 use borrow.Author.Needs.{needs}
 use Rattle.elements.proofs.rule.spiral_angle.Statement.{statement}
 use Rattle.elements.proofs.rule.spiral_angle.Tie as tie
-use Rattle.elements.proofs.rule.spiral_angle.Reads as reads
-use Rattle.elements.proofs.rule.spiral_angle.Lts as lts
 
--- src/rule.rt:63:5
 mul-result : tie.Need-mul-result
 mul-result c = search needs
 
--- src/rule.rt:63:5
 div-result : tie.Need-div-result
 div-result c = search needs
 
--- src/rule.rt:59:1
 returns : tie.Need-returns
 unfolding spiralAngle
 returns c = (refl, spiral-angle-most (c .args .radius) (c .args .spiral) (c .pre .2))

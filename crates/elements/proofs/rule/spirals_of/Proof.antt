@@ -1,59 +1,41 @@
+-- `spirals_of`: what is taken away is no greater than X and Y, so k and p are natural numbers. Assumes nothing.
 use Rattle.numbers.proofs.Ranges.{at-most}
 use Rattle.elements.proofs.Bounds.{k-between, p-between}
 use Rattle.elements.proofs.Computed.{along-fits, across-fits, computed-X, computed-Y, computed-k, computed-p}
 use borrow.Author.Needs.{needs}
 use Rattle.elements.proofs.rule.spirals_of.Statement.{statement}
 use Rattle.elements.proofs.rule.spirals_of.Tie as tie
-use Rattle.elements.proofs.rule.spirals_of.Reads as reads
-use Rattle.elements.proofs.rule.spirals_of.Lts as lts
-use Rattle.elements.proofs.rule.micrometres.Reads as micrometres-reads
-use Rattle.elements.proofs.rule.spiral_angle.Reads as spiral-angle-reads
-use Rattle.elements.proofs.rule.unit_x.Reads as unit-x-reads
-use Rattle.elements.proofs.rule.unit_y.Reads as unit-y-reads
-use Rattle.elements.proofs.series.cosine.Reads as cosine-reads
-use Rattle.elements.proofs.series.sine.Reads as sine-reads
 
--- src/rule.rt:90:9
 spiral-angle-requires : tie.Need-spiral-angle-requires
 spiral-angle-requires c κs = search needs
 
--- src/rule.rt:91:33
 unit-x-requires : tie.Need-unit-x-requires
 unit-x-requires c κs = search needs
 
--- src/rule.rt:91:9
 micrometres-requires : tie.Need-micrometres-requires
 micrometres-requires c κs = search needs
 
--- src/rule.rt:92:33
 unit-y-requires : tie.Need-unit-y-requires
 unit-y-requires c κs = search needs
 
--- src/rule.rt:92:9
 micrometres-requires-2 : tie.Need-micrometres-requires-2
 micrometres-requires-2 c κs = search needs
 
--- src/rule.rt:93:37
 sine-requires : tie.Need-sine-requires
 sine-requires c κs = search needs
 
--- src/rule.rt:93:9
 micrometres-requires-3 : tie.Need-micrometres-requires-3
 micrometres-requires-3 c κs = search needs
 
--- src/rule.rt:94:51
 cosine-requires : tie.Need-cosine-requires
 cosine-requires c κs = search needs
 
--- src/rule.rt:94:38
 sub-micrometres : tie.Need-sub-micrometres
 sub-micrometres c = search needs
 
--- src/rule.rt:94:9
 micrometres-requires-4 : tie.Need-micrometres-requires-4
 micrometres-requires-4 c κs = search needs
 
--- src/rule.rt:98:17
 sub-t8 : tie.Need-sub-t8
 sub-t8 c =
     let near = c .before .before .before in
@@ -64,7 +46,6 @@ sub-t8 c =
     let t = mid .before .before .spiral-angle .ensures .0 in
     along-fits R L t (start .pre .3) (mid .before .unit-x .ensures .0) (mid .micrometres .ensures) (near .sine .ensures .0) (c .before .before .micrometres3 .ensures)
 
--- src/rule.rt:99:16
 sub-t9 : tie.Need-sub-t9
 sub-t9 c =
     let near = c .before .before .before in
@@ -75,7 +56,6 @@ sub-t9 c =
     let t = mid .before .before .spiral-angle .ensures .0 in
     across-fits R L t (start .pre .3) (near .before .before .unit-y .ensures .0) (near .before .micrometres2 .ensures) (c .before .cosine .ensures .0) (c .before .cosine .ensures .2) (c .micrometres4 .ensures)
 
--- src/rule.rt:86:1
 returns : tie.Need-returns
 returns c =
     let near = c .before .before .before in
@@ -86,14 +66,14 @@ returns c =
     let t = mid .before .before .spiral-angle .ensures .0 in
     let k = computed-k R L t (start .pre .3) (mid .before .unit-x .ensures .0) (mid .micrometres .ensures) (near .sine .ensures .0) (c .before .before .micrometres3 .ensures) in
     let p = computed-p R L t (start .pre .3) (near .before .before .unit-y .ensures .0) (near .before .micrometres2 .ensures) (c .before .cosine .ensures .0) (c .before .cosine .ensures .2) (c .micrometres4 .ensures) in
-    record
-      { X = computed-X R L t (mid .before .unit-x .ensures .0) (mid .micrometres .ensures)
-      ; Y = computed-Y R L t (near .before .before .unit-y .ensures .0) (near .before .micrometres2 .ensures)
-      ; k = k
-      ; p = p
-      ; k-most = at-most k (k-between R L (start .pre .1) (start .pre .2) (start .pre .3))
-      ; p-most = at-most p (p-between R L (start .pre .1) (start .pre .2) (start .pre .3))
-      }
+    record {
+      X = computed-X R L t (mid .before .unit-x .ensures .0) (mid .micrometres .ensures);
+      Y = computed-Y R L t (near .before .before .unit-y .ensures .0) (near .before .micrometres2 .ensures);
+      k = k;
+      p = p;
+      k-most = at-most k (k-between R L (start .pre .1) (start .pre .2) (start .pre .3));
+      p-most = at-most p (p-between R L (start .pre .1) (start .pre .2) (start .pre .3));
+    }
 
 pub spirals-of-spec : {M : Type 1} → statement M
 spirals-of-spec =

@@ -1,29 +1,22 @@
+-- `unit_x`: t2 and t4 are the definition's, and nothing falls below zero. Assumes nothing.
 use Rattle.numbers.proofs.Ranges.{at-most}
 use Rattle.elements.proofs.UnitSpiral.{computed-x, unitX-between}
 use borrow.Author.Needs.{needs}
 use Rattle.elements.proofs.rule.unit_x.Statement.{statement}
 use Rattle.elements.proofs.rule.unit_x.Tie as tie
-use Rattle.elements.proofs.rule.unit_x.Reads as reads
-use Rattle.elements.proofs.rule.unit_x.Lts as lts
-use Rattle.elements.proofs.rule.angle_product.Reads as angle-product-reads
 
--- src/rule.rt:71:9
 angle-product-requires : tie.Need-angle-product-requires
 angle-product-requires c κs = search needs
 
--- src/rule.rt:72:9
 angle-product-requires-2 : tie.Need-angle-product-requires-2
 angle-product-requires-2 c κs = search needs
 
--- src/rule.rt:73:5
 sub-result : tie.Need-sub-result
 sub-result c = search needs
 
--- src/rule.rt:73:5
 add-result : tie.Need-add-result
 add-result c = search needs
 
--- src/rule.rt:67:1
 returns : tie.Need-returns
 returns c =
     let t = c .before .before .args .t in

@@ -1,25 +1,19 @@
+-- `unit_y`: t2 and t3 are the definition's, and nothing falls below zero. Assumes nothing.
 use Rattle.numbers.proofs.Ranges.{at-most}
 use Rattle.elements.proofs.UnitSpiral.{computed-y, unitY-between}
 use borrow.Author.Needs.{needs}
 use Rattle.elements.proofs.rule.unit_y.Statement.{statement}
 use Rattle.elements.proofs.rule.unit_y.Tie as tie
-use Rattle.elements.proofs.rule.unit_y.Reads as reads
-use Rattle.elements.proofs.rule.unit_y.Lts as lts
-use Rattle.elements.proofs.rule.angle_product.Reads as angle-product-reads
 
--- src/rule.rt:81:9
 angle-product-requires : tie.Need-angle-product-requires
 angle-product-requires c κs = search needs
 
--- src/rule.rt:82:9
 angle-product-requires-2 : tie.Need-angle-product-requires-2
 angle-product-requires-2 c κs = search needs
 
--- src/rule.rt:83:5
 sub-result : tie.Need-sub-result
 sub-result c = search needs
 
--- src/rule.rt:77:1
 returns : tie.Need-returns
 returns c =
     let t = c .before .before .args .t in

@@ -1,3 +1,4 @@
+-- `cosine`: its divisors are those of the definition, (2j − 1) × 2j. Assumes nothing.
 use mathlib.Core.Path.{_≡_, refl, _∙_, ap}
 use Prim.Native.Nat.{ℕ, _-_, _*_}
 use lib.IntN.{pos}
@@ -7,27 +8,20 @@ use Rattle.elements.proofs.SineAndCosine.{cosine-above}
 use borrow.Author.Needs.{needs}
 use Rattle.elements.proofs.series.cosine.Statement.{statement}
 use Rattle.elements.proofs.series.cosine.Tie as tie
-use Rattle.elements.proofs.series.cosine.Reads as reads
-use Rattle.elements.proofs.series.cosine.Lts as lts
-use Rattle.elements.proofs.series.series.Reads as series-reads
-use Rattle.elements.proofs.series.square.Reads as square-reads
 
--- src/series.rt:52:24
 square-requires : tie.Need-square-requires
 square-requires c κs = search needs
 
--- src/series.rt:52:5
 series-requires : tie.Need-series-requires
 series-requires c κs = search needs
 
--- src/series.rt:48:1
 returns : tie.Need-returns
 unfolding cosineOf
 returns c =
     let q = c .before .before .args .q in
     let is : pos (c .series .result) ≡ cosineOf q =
-        c .series .ensures (λ j. (2 * j - 1) * (2 * j)) refl refl refl refl refl refl
-        ∙ ap (λ (z : ℕ). alternating (term (λ j. (2 * j - 1) * (2 * j)) scale z) 6) (c .before .square .ensures .0) in
+    c .series .ensures (λ j. (2 * j - 1) * (2 * j)) refl refl refl refl refl refl
+    ∙ ap (λ (z : ℕ). alternating (term (λ j. (2 * j - 1) * (2 * j)) scale z) 6) (c .before .square .ensures .0) in
     let b = cosine-above q (c .before .before .pre) in
     (is, at-least is b, at-most is b)
 

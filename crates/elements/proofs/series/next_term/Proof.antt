@@ -1,3 +1,4 @@
+-- `next_term`: the product fits, and a term is no greater than the former. Assumes nothing.
 use mathlib.Core.Path.{refl}
 use native.Mathlib.Nat.{mul-le-mul}
 use native.Mathlib.Omega.{arith}
@@ -5,22 +6,16 @@ use Rattle.elements.proofs.SineAndCosine.{next-falls}
 use borrow.Author.Needs.{needs}
 use Rattle.elements.proofs.series.next_term.Statement.{statement}
 use Rattle.elements.proofs.series.next_term.Tie as tie
-use Rattle.elements.proofs.series.next_term.Reads as reads
-use Rattle.elements.proofs.series.next_term.Lts as lts
 
--- src/series.rt:20:5
 mul-result : tie.Need-mul-result
 mul-result c = omega (arith, mul-le-mul (c .pre .0) (c .pre .1))
 
--- src/series.rt:20:19
 mul-result-2 : tie.Need-mul-result-2
 mul-result-2 c = search needs
 
--- src/series.rt:20:5
 div-result : tie.Need-div-result
 div-result c = search needs
 
--- src/series.rt:16:1
 returns : tie.Need-returns
 returns c = (refl, next-falls (c .args .former) (c .args .z) (c .args .divisor) (omega arith))
 

@@ -1,60 +1,45 @@
+-- `series`: the terms fall, so the sum of seven never goes below zero and is the definition's. Assumes nothing.
 use Rattle.elements.proofs.SineAndCosine.{computed-series}
 use borrow.Author.Needs.{needs}
 use Rattle.elements.proofs.series.series.Statement.{statement}
 use Rattle.elements.proofs.series.series.Tie as tie
-use Rattle.elements.proofs.series.series.Reads as reads
-use Rattle.elements.proofs.series.series.Lts as lts
-use Rattle.elements.proofs.series.next_term.Reads as next-term-reads
 
--- src/series.rt:30:9
 next-term-requires : tie.Need-next-term-requires
 next-term-requires c κs = search needs
 
--- src/series.rt:31:9
 next-term-requires-2 : tie.Need-next-term-requires-2
 next-term-requires-2 c κs = search needs
 
--- src/series.rt:32:9
 next-term-requires-3 : tie.Need-next-term-requires-3
 next-term-requires-3 c κs = search needs
 
--- src/series.rt:33:9
 next-term-requires-4 : tie.Need-next-term-requires-4
 next-term-requires-4 c κs = search needs
 
--- src/series.rt:34:9
 next-term-requires-5 : tie.Need-next-term-requires-5
 next-term-requires-5 c κs = search needs
 
--- src/series.rt:35:9
 next-term-requires-6 : tie.Need-next-term-requires-6
 next-term-requires-6 c κs = search needs
 
--- src/series.rt:36:5
 add-result : tie.Need-add-result
 add-result c = search needs
 
--- src/series.rt:36:5
 add-result-2 : tie.Need-add-result-2
 add-result-2 c = search needs
 
--- src/series.rt:36:5
 add-result-3 : tie.Need-add-result-3
 add-result-3 c = search needs
 
--- src/series.rt:36:29
 add-result-4 : tie.Need-add-result-4
 add-result-4 c = search needs
 
--- src/series.rt:36:29
 add-result-5 : tie.Need-add-result-5
 add-result-5 c = search needs
 
--- src/series.rt:36:5
 sub-result : tie.Need-sub-result
 sub-result c = search needs
 
--- src/series.rt:24:1
 returns : tie.Need-returns
 returns c =
     λ divisor.

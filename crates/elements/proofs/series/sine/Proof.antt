@@ -1,3 +1,4 @@
+-- `sine`: its divisors are those of the definition, 2j × (2j + 1). Assumes nothing.
 use mathlib.Core.Path.{_≡_, refl, _∙_, ap}
 use Prim.Native.Nat.{ℕ, _+_, _*_}
 use lib.IntN.{pos}
@@ -7,27 +8,20 @@ use Rattle.elements.proofs.SineAndCosine.{sine-between}
 use borrow.Author.Needs.{needs}
 use Rattle.elements.proofs.series.sine.Statement.{statement}
 use Rattle.elements.proofs.series.sine.Tie as tie
-use Rattle.elements.proofs.series.sine.Reads as reads
-use Rattle.elements.proofs.series.sine.Lts as lts
-use Rattle.elements.proofs.series.series.Reads as series-reads
-use Rattle.elements.proofs.series.square.Reads as square-reads
 
--- src/series.rt:44:15
 square-requires : tie.Need-square-requires
 square-requires c κs = search needs
 
--- src/series.rt:44:5
 series-requires : tie.Need-series-requires
 series-requires c κs = search needs
 
--- src/series.rt:40:1
 returns : tie.Need-returns
 unfolding sineOf
 returns c =
     let q = c .before .before .args .q in
     let is : pos (c .series .result) ≡ sineOf q =
-        c .series .ensures (λ j. 2 * j * (2 * j + 1)) refl refl refl refl refl refl
-        ∙ ap (λ (z : ℕ). alternating (term (λ j. 2 * j * (2 * j + 1)) q z) 6) (c .before .square .ensures .0) in
+    c .series .ensures (λ j. 2 * j * (2 * j + 1)) refl refl refl refl refl refl
+    ∙ ap (λ (z : ℕ). alternating (term (λ j. 2 * j * (2 * j + 1)) q z) 6) (c .before .square .ensures .0) in
     (is, at-most is (sine-between q (c .before .before .pre)))
 
 pub sine-spec : {M : Type 1} → statement M

@@ -1,14 +1,11 @@
+-- `between`: the first comparison decides, else the second. Assumes nothing.
 use borrow.Author.Tests.{lt-leb, le-leb}
 use Rattle.line.proofs.checks.between.Statement.{statement}
 use Rattle.line.proofs.checks.between.Tie as tie
-use Rattle.line.proofs.checks.between.Reads as reads
-use Rattle.line.proofs.checks.between.Lts as lts
 
--- src/checks.rt:10:1
 returns : tie.Need-returns
 returns c = simp (lt-leb _ _ (c .if1 .taken))
 
--- src/checks.rt:10:1
 returns-2 : tie.Need-returns-2
 returns-2 c = simp (le-leb _ _ (c .if1 .left))
 

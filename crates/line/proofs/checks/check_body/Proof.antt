@@ -1,3 +1,4 @@
+-- `check_body`: the loop keeps the first refusal of distance 0 and the first i curves and distances. Assumes nothing.
 use mathlib.Core.Path.{_≡_, _∙_, ap}
 use Prim.Native.Nat.{_-_, _≤_}
 use native.Mathlib.Omega.{arith}
@@ -7,11 +8,6 @@ use Rattle.line.specs.Checks.{bodyOutcome}
 use Rattle.line.proofs.Walk.{body-step}
 use Rattle.line.proofs.checks.check_body.Statement.{statement}
 use Rattle.line.proofs.checks.check_body.Tie as tie
-use Rattle.line.proofs.checks.check_body.Reads as reads
-use Rattle.line.proofs.checks.check_body.Lts as lts
-use Rattle.line.proofs.checks.check_distance.Reads as check-distance-reads
-use Rattle.line.proofs.checks.check_entry.Reads as check-entry-reads
-use Rattle.refusals.proofs.first.Reads as first-reads
 
 abbrev Inv-loop : tie.InvT-loop
 Inv-loop line n d0 verdict₀ i₀ verdict i = (i ≤ n) × (outcomeOf verdict ≡ bodyOutcome line i)
@@ -19,70 +15,55 @@ Inv-loop line n d0 verdict₀ i₀ verdict i = (i ≤ n) × (outcomeOf verdict �
 abbrev μ-loop : tie.MeasureT-loop
 μ-loop line n d0 verdict₀ i₀ verdict i = n - i
 
--- src/checks.rt:74:14
 element-copy-out-d0 : tie.Need-element-copy-out-d0 Inv-loop μ-loop
 element-copy-out-d0 c = search needs
 
--- src/checks.rt:75:9
 check-distance-requires : tie.Need-check-distance-requires Inv-loop μ-loop
 check-distance-requires c κs = tt
 
--- src/checks.rt:77:5
 loop-holds : tie.Need-loop-holds Inv-loop μ-loop
 unfolding bodyOutcome
 loop-holds c = (search needs, c .check-distance .ensures)
 
--- src/checks.rt:78:21
 mul-curve : tie.Need-mul-curve Inv-loop μ-loop
 mul-curve c = search needs
 
--- src/checks.rt:78:21
 element-copy-out-curve : tie.Need-element-copy-out-curve Inv-loop μ-loop
 element-copy-out-curve c = search needs
 
--- src/checks.rt:79:39
 add-distance : tie.Need-add-distance Inv-loop μ-loop
 add-distance c = search needs
 
--- src/checks.rt:79:24
 mul-distance : tie.Need-mul-distance Inv-loop μ-loop
 mul-distance c = search needs
 
--- src/checks.rt:79:24
 element-copy-out-distance : tie.Need-element-copy-out-distance Inv-loop μ-loop
 element-copy-out-distance c = search needs
 
--- src/checks.rt:80:51
 add-check-entry : tie.Need-add-check-entry Inv-loop μ-loop
 add-check-entry c = search needs
 
--- src/checks.rt:80:50
 cast-check-entry : tie.Need-cast-check-entry Inv-loop μ-loop
 cast-check-entry c = search needs
 
--- src/checks.rt:80:13
 check-entry-requires : tie.Need-check-entry-requires Inv-loop μ-loop
 check-entry-requires c κs = tt
 
--- src/checks.rt:81:9
 first-requires : tie.Need-first-requires Inv-loop μ-loop
 first-requires c κs = tt
 
--- src/checks.rt:82:9
 add-i : tie.Need-add-i Inv-loop μ-loop
 add-i c = search needs
 
--- src/checks.rt:77:5
 loop-less : tie.Need-loop-less Inv-loop μ-loop
 loop-less c = search needs
 
--- src/checks.rt:77:5
 loop-again : tie.Need-loop-again Inv-loop μ-loop
-loop-again c =
-    (search needs,
-    body-step _ _ _ _ _ (c .before .before .before .before .before .loop .inv .1) (c .before .check-entry .ensures) (c .first .ensures))
+loop-again c = (
+  search needs,
+  body-step _ _ _ _ _ (c .before .before .before .before .before .loop .inv .1) (c .before .check-entry .ensures) (c .first .ensures),
+)
 
--- src/checks.rt:69:1
 returns : tie.Need-returns Inv-loop μ-loop
 returns c =
     let all : c .before .loop .i ≡ c .before .before .before .before .args .t1 .count = omega arith in

@@ -1,3 +1,4 @@
+-- `check_line`: the head's refusal is the line's; where the head passes, there are 64 curves or fewer and the body decides. Assumes nothing.
 use mathlib.Core.Path.{sym, _∙_, ap}
 use Rattle.refusals.specs.Outcomes.{outcomeOf}
 use Rattle.line.specs.Checks.{lineOutcome}
@@ -6,33 +7,24 @@ use Rattle.line.proofs.InRange.{few-curves}
 use borrow.Author.Needs.{needs}
 use Rattle.line.proofs.checks.check_line.Statement.{statement}
 use Rattle.line.proofs.checks.check_line.Tie as tie
-use Rattle.line.proofs.checks.check_line.Reads as reads
-use Rattle.line.proofs.checks.check_line.Lts as lts
-use Rattle.line.proofs.checks.check_body.Reads as check-body-reads
-use Rattle.line.proofs.checks.check_head.Reads as check-head-reads
 
--- src/checks.rt:91:9
 check-head-requires : tie.Need-check-head-requires
 check-head-requires c κs = tt
 
 enum-told : tie.Need-enum-told
 enum-told c = search needs
 
--- src/checks.rt:93:9
 enum-told-2 : tie.Need-enum-told-2
 enum-told-2 c = search needs
 
--- src/checks.rt:93:9
 returns : tie.Need-returns
 unfolding lineOutcome
 returns c = refused-first _ _ _ (c .enum-told2 .given .1) (c .before .before .check-head .ensures)
 
--- src/checks.rt:95:5
 check-body-requires : tie.Need-check-body-requires
 check-body-requires c κs =
     few-curves _ _ _ _ (sym (c .before .before .check-head .ensures) ∙ ap outcomeOf (c .enum-told .given .1))
 
--- src/checks.rt:88:1
 returns-2 : tie.Need-returns-2
 unfolding lineOutcome
 returns-2 c =
