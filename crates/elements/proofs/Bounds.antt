@@ -1,16 +1,15 @@
 -- The ranges of everything that the working rule computes for a curve in range: each quotient is of a number not below zero, by one above
 -- zero; k and p are not below zero; and an arc that is answered is 1,000 µm at least. Assumes nothing.
-use mathlib.Core.Path.{_≡_, refl, sym, _∙_, ap}
-use mathlib.Core.Bool.{Bool, true, false}
-use Prim.Native.Nat.{ℕ, zero, suc, _+_, _-_, _*_, _/_, _≤_, _<_}
+use mathlib.Core.Path.{_≡_, sym, _∙_, ap}
+use mathlib.Core.Bool.{true}
+use Prim.Native.Nat.{ℕ, _+_, _-_, _*_, _/_, _≤_}
 use native.Mathlib.Nat.{mul-add, add-mul, mul-assoc, mul-comm, mul-left-comm, mul-zero, mul-le-mul, mul-le-mul-left, mul-le-mul-right, mul-div-le, div-le-of-le-mul}
 use native.Mathlib.Decide.{decLe}
 use native.Mathlib.Omega.{arith}
-use lib.Dec.{leb}
-use lib.IntN.{ℤ, pos, _+ℤ_, _-ℤ_, _*ℤ_}
+use lib.IntN.{ℤ, pos, _-ℤ_, _*ℤ_}
 use lib.Signed.{leZ}
 use borrow.Author.Tests.{leb-true}
-use Rattle.numbers.specs.Whole.{_÷_, Between}
+use Rattle.numbers.specs.Whole.{Between}
 use Rattle.numbers.proofs.Differences.{minus-le, reaches}
 use Rattle.numbers.proofs.Ranges.{at-least, at-most, natural, widen, sum-between, difference-between, product-between, quotient-between}
 use Rattle.refusals.specs.Outcomes.{passed}

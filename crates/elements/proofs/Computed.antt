@@ -1,7 +1,6 @@
 -- What is computed step by step on natural numbers is what the working rule says. Assumes nothing.
-use mathlib.Core.Path.{_≡_, refl, sym, _∙_, ap}
-use mathlib.Core.Bool.{Bool, true, false}
-use Prim.Native.Nat.{ℕ, zero, suc, _+_, _-_, _*_, _/_, _≤_, _<_}
+use mathlib.Core.Path.{_≡_, sym, _∙_, ap}
+use Prim.Native.Nat.{ℕ, _+_, _-_, _*_, _/_, _≤_, _<_}
 use native.Mathlib.Nat.{mul-le-mul}
 use native.Mathlib.Omega.{arith}
 use lib.Dec.{leb}
@@ -18,7 +17,7 @@ use Rattle.refusals.specs.declared.Refusal.{Refusal}
 use Rattle.refusals.specs.declared.Verdict.{Verdict}
 use Rattle.refusals.specs.declared.Verdict.the-variants.{Pass, Refused}
 use Rattle.elements.specs.WorkingRule.{scale, rounded, fullAngle, halfAngle, spiralAngle, sineOf, cosineOf, unitX, unitY, spiralX, spiralY, centreOf, shiftOf, arcOf, tanOf, tangentOf}
-use Rattle.elements.specs.Answer.{Reply, answered, declined, valuesBy, arcOutcome, elementOutcome, replyTo, elementReply}
+use Rattle.elements.specs.Answer.{answered, declined, valuesBy, arcOutcome, elementOutcome, replyTo, elementReply}
 use Rattle.elements.proofs.Rounding.{rounded-between, rounded-keeps-order}
 use Rattle.elements.proofs.Bounds.{sine-part, cosine-part}
 

@@ -1,11 +1,11 @@
 -- Document 01's cases 1 (elements), 6, 7, 8 and 11, from the definitions. Assumes nothing.
 use mathlib.Core.Path.{_≡_, refl}
-use Prim.Native.Nat.{ℕ, zero, suc, _+_, _*_, _/_}
-use native.Mathlib.Nat.{mul-zero, zero-mul, zero-div}
-use lib.IntN.{ℤ, pos, negsuc}
+use Prim.Native.Nat.{ℕ}
+use native.Mathlib.Nat.{mul-zero, zero-div}
+use lib.IntN.{pos, negsuc}
 use Rattle.line.specs.Checks.{curveOutcome}
 use Rattle.elements.specs.WorkingRule.{rounded, fullAngle, halfAngle, spiralAngle, term, alternating, sineOf, cosineOf, t2, t3, t4, unitX, unitY, spiralX, spiralY, centreOf, shiftOf, arcOf, tanOf, tangentOf}
-use Rattle.elements.specs.Answer.{Reply, answered, declined, valuesBy, arcOutcome, elementOutcome, elementReply}
+use Rattle.elements.specs.Answer.{answered, declined, valuesBy, arcOutcome, elementOutcome, elementReply}
 
 -- R 350,000 and L 40,000 in each; case 8 is without spirals.
 pub record Examples : Type 0 where

@@ -1,7 +1,7 @@
 -- The rounding of an element's last division: what callers use of it, whichever way it goes. Assumes nothing.
-use mathlib.Core.Path.{_≡_, refl, sym, _∙_, ap}
-use Prim.Native.Nat.{ℕ, zero, suc, _+_, _-_, _*_, _/_, _≤_, _<_}
-use native.Mathlib.Nat.{div-le-of-le-mul, div-mul-le-self, le-div-iff-mul-le}
+use mathlib.Core.Path.{_≡_}
+use Prim.Native.Nat.{ℕ, zero, _+_, _-_, _*_, _/_, _≤_, _<_}
+use native.Mathlib.Nat.{div-le-of-le-mul, div-mul-le-self, le-div-iff-mul-le, lt-div-mul-add}
 use native.Mathlib.Omega.{arith}
 use lib.IntN.{ℤ, pos}
 use Rattle.numbers.specs.Whole.{Between}
@@ -21,3 +21,10 @@ rounded-keeps-order {a} {b} {u} {v} m above p q h =
     let eu : u ≡ a / m = cc in
     let ev : v ≡ b / m = cc in
     rw (eu, ev) (le-div-iff-mul-le {k = m} {x = a / m} {y = b} above .1 (omega (arith, div-mul-le-self a m)))
+
+-- Rounding down errs by less than one unit, and never upwards.
+pub rounded-errs : {n u : ℕ} (m : ℕ) → zero < m → pos u ≡ rounded (pos n) m → (u * m ≤ n) × (n < u * m + m)
+unfolding rounded
+rounded-errs {n} {u} m above e =
+    let q : u ≡ n / m = cc in
+    rw q (div-mul-le-self n m, lt-div-mul-add {a = n} {b = m} above)

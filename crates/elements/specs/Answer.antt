@@ -1,13 +1,10 @@
 -- The call for one curve's elements (document 01, "Order" and "Working rule"): what is answered for any A, R, L.
-use mathlib.Core.Path.{_≡_}
-use Prim.Native.Nat.{ℕ, _≤_}
+use Prim.Native.Nat.{ℕ}
 use lib.IntN.{ℤ, pos}
 use lib.Signed.{leZ}
 use Rattle.refusals.specs.Table.{numberOf, placeOf}
 use Rattle.refusals.specs.Outcomes.{Outcome, passed, refused, need, _▹_}
 use Rattle.line.specs.Checks.{curveOutcome}
-use Rattle.elements.specs.declared.rule.Spirals.{Spirals}
-use Rattle.elements.specs.declared.Elements.{Elements}
 use Rattle.elements.specs.declared.ElementAnswer.{ElementAnswer}
 use Rattle.elements.specs.declared.ElementAnswer.the-variants.{Found, Refused}
 use Rattle.elements.specs.WorkingRule.{spiralX, spiralY, centreOf, shiftOf, arcOf, tangentOf}
@@ -68,12 +65,3 @@ replyTo (refused number place) values = declined number place
 -- What the call answers.
 unfoldable pub elementReply : ℕ → ℕ → ℕ → Reply
 elementReply A R L = replyTo (elementOutcome A R L) (valuesBy A R L)
-
--- What the radius and the spiral give alone: X, Y, k and p, with their greatest values.
-pub record SpiralsOf (R L : ℕ) (s : Spirals) : Type 0 where
-  pub X : pos (s .x) ≡ spiralX R L
-  pub Y : pos (s .y) ≡ spiralY R L
-  pub k : pos (s .centre) ≡ centreOf R L
-  pub p : pos (s .shift) ≡ shiftOf R L
-  pub k-most : s .centre ≤ 500000000
-  pub p-most : s .shift ≤ 83333333

@@ -1,3 +1,4 @@
 -- What the contracts and the laws of `elements` cite.
 pub mod WorkingRule
 pub mod Answer
+pub mod SpiralElements

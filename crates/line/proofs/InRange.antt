@@ -1,8 +1,8 @@
 -- A check passes exactly where the fields are in range. Assumes nothing.
-use mathlib.Core.Path.{_≡_, refl, sym, _∙_, ap}
+use mathlib.Core.Path.{_≡_, refl}
 use mathlib.Core.Logic.{_⊎_, inl, inr, ⊎-elim}
 use mathlib.Core.Bool.{Bool, true, false}
-use Prim.Native.Nat.{ℕ, zero, suc, _+_, _%_, _≤_, _<_}
+use Prim.Native.Nat.{ℕ, zero, suc, _%_, _≤_}
 use native.Mathlib.Decide.{decLe}
 use native.Mathlib.Omega.{arith}
 use lib.Arith.{le-zero}
@@ -10,7 +10,7 @@ use lib.Dec.{leb, eqb}
 use borrow.Author.Tests.{leb-true, eqb-true, le-leb}
 use Rattle.line.specs.declared.Line.{Line}
 use Rattle.refusals.specs.Outcomes.{passed, need}
-use Rattle.line.specs.Checks.{_&_, within, startOutcome, headOutcome, distanceOutcome, curveOutcome, distanceAt, curveAt, bodyOutcome, lineOutcome}
+use Rattle.line.specs.Checks.{_&_, within, greatestStart, startOutcome, headOutcome, distanceOutcome, curveOutcome, distanceAt, curveAt, bodyOutcome, lineOutcome}
 use Rattle.line.specs.Ranges.{CurveInRange, LineInRange}
 use Rattle.refusals.proofs.Joining.{passed-left, passed-right, need-holds}
 
@@ -108,7 +108,7 @@ line-in-range l h =
     let speed = need-holds (within 40 120 v & eqb (v % 10) 0) 4 0 (passed-left (need (within 40 120 v & eqb (v % 10) 0) 4 0) _ h₁) in
     let h₂ = passed-right (need (within 40 120 v & eqb (v % 10) 0) 4 0) _ h₁ in
     let fall = need-holds (within 2 12 e) 5 0 (passed-left (need (within 2 12 e) 5 0) _ h₂) in
-    let start = need-holds (leb (l .start) 200000000) 6 0 (passed-right (need (within 2 12 e) 5 0) _ h₂) in
+    let start = need-holds (leb (l .start) greatestStart) 6 0 (passed-right (need (within 2 12 e) 5 0) _ h₂) in
     record {
       few = few-curves n v e (l .start) head;
       speed-least = within-least 40 120 v (both-left _ (eqb (v % 10) 0) speed);
@@ -116,7 +116,7 @@ line-in-range l h =
       speed-tens = eqb-true (v % 10) 0 (both-right (within 40 120 v) _ speed);
       crossfall-least = within-least 2 12 e fall;
       crossfall-most = within-most 2 12 e fall;
-      start-most = leb-true (l .start) 200000000 start;
+      start-most = leb-true (l .start) greatestStart start;
       distance-least = λ i m. within-least 1 20000000 (distanceAt l i) (last-distance l i (body-below l n i m body));
       distance-most = λ i m. within-most 1 20000000 (distanceAt l i) (last-distance l i (body-below l n i m body));
       curve = λ i m. last-curve l i (body-below l n (suc i) m body);

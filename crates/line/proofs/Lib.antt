@@ -2,3 +2,4 @@
 pub mod Walk
 pub mod InRange
 pub mod Unused
+pub mod Examples

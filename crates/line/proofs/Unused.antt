@@ -1,9 +1,9 @@
 -- The checks read no unused entry and no side: lines that are alike where they are used have the same first refusal. Assumes nothing.
-use mathlib.Core.Path.{_≡_, refl, sym, _∙_, ap}
-use Prim.Native.Nat.{ℕ, zero, suc, _≤_, _<_}
+use mathlib.Core.Path.{_≡_}
+use Prim.Native.Nat.{ℕ, zero, suc, _≤_}
 use native.Mathlib.Omega.{arith}
 use Rattle.line.specs.declared.Line.{Line}
-use Rattle.line.specs.Checks.{headOutcome, distanceOutcome, curveOutcome, distanceAt, curveAt, bodyOutcome, lineOutcome}
+use Rattle.line.specs.Checks.{bodyOutcome, lineOutcome}
 use Rattle.line.specs.Ranges.{AlikeWhereUsed}
 
 module _ (l m : Line) (alike : AlikeWhereUsed l m) where

@@ -17,9 +17,13 @@ false & b = false
 abbrev pub within : ℕ → ℕ → ℕ → Bool
 within least most x = leb least x & leb x most
 
--- 6: "start station, 0 to 200,000,000 mm"
+-- "start station, 0 to 200,000,000 mm"
+abbrev pub greatestStart : ℕ
+greatestStart = 200000000
+
+-- 6: the start
 unfoldable pub startOutcome : ℕ → Outcome
-startOutcome start = need (leb start 200000000) 6 0
+startOutcome start = need (leb start greatestStart) 6 0
 
 -- 3 to 6: "n curves (0 to 64)", V "40, 50, .. 120 only", e "2 to 12", the start
 unfoldable pub headOutcome : ℕ → ℕ → ℕ → ℕ → Outcome

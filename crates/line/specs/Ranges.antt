@@ -2,7 +2,7 @@
 use mathlib.Core.Path.{_≡_}
 use Prim.Native.Nat.{ℕ, _%_, _≤_, _<_}
 use Rattle.line.specs.declared.Line.{Line}
-use Rattle.line.specs.Checks.{distanceAt, curveAt}
+use Rattle.line.specs.Checks.{greatestStart, distanceAt, curveAt}
 
 -- A deflection A, a radius R and a spiral length L that pass 9 to 11.
 pub record CurveInRange (A R L : ℕ) : Type 0 where
@@ -13,7 +13,7 @@ pub record CurveInRange (A R L : ℕ) : Type 0 where
   pub L-most : L ≤ 500000
   pub L-to-R : L ≤ R
 
--- A line whose fields pass 3 to 6 and 8 to 11. The range of the start is refusal 6's alone.
+-- A line whose fields pass 3 to 6 and 8 to 11.
 pub record LineInRange (line : Line) : Type 0 where
   pub few : line .count ≤ 64
   pub speed-least : 40 ≤ line .speed
@@ -21,7 +21,7 @@ pub record LineInRange (line : Line) : Type 0 where
   pub speed-tens : line .speed % 10 ≡ 0
   pub crossfall-least : 2 ≤ line .crossfall
   pub crossfall-most : line .crossfall ≤ 12
-  pub start-most : line .start ≤ 200000000
+  pub start-most : line .start ≤ greatestStart
   pub distance-least : (i : ℕ) → i ≤ line .count → 1 ≤ distanceAt line i
   pub distance-most : (i : ℕ) → i ≤ line .count → distanceAt line i ≤ 20000000
   pub curve : (i : ℕ) → i < line .count → CurveInRange (curveAt line i .deflection) (curveAt line i .radius) (curveAt line i .spiral)

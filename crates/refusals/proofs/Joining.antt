@@ -1,5 +1,5 @@
 -- How outcomes join: two pass together exactly where each does, and a first refusal stays. Assumes nothing.
-use mathlib.Core.Path.{_≡_, refl, _∙_}
+use mathlib.Core.Path.{_≡_, refl, _∙_, ap}
 use mathlib.Core.Bool.{Bool, true, false}
 use Prim.Native.Nat.{ℕ}
 use Rattle.refusals.specs.declared.Refusal.{Refusal}
@@ -31,3 +31,10 @@ refused-first v {r} a b e h = h ∙ stays v r a b e h
 pub passed-first : (v : Verdict) (a b : Outcome) → v ≡ Pass → outcomeOf v ≡ a → b ≡ (a ▹ b)
 passed-first v passed b e h = refl
 passed-first v (refused n p) b e h = cc
+
+-- Equal outcomes join to equal ones, and equal tests ask the same.
+pub join : {a a′ b b′ : Outcome} → a ≡ a′ → b ≡ b′ → (a ▹ b) ≡ (a′ ▹ b′)
+join p q = λ j. p j ▹ q j
+
+pub tested : (n p : ℕ) {o : Outcome} {t t′ : Bool} → o ≡ need t n p → t ≡ t′ → o ≡ need t′ n p
+tested n p e q = e ∙ ap (λ (t : Bool). need t n p) q

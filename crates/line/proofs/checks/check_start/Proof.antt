@@ -8,7 +8,7 @@ must-requires c κs = tt
 
 returns : tie.Need-returns
 unfolding startOutcome
-returns c = cc
+returns c = c .must .ensures
 
 pub check-start-spec : {M : Type 1} → statement M
 check-start-spec = tie.close (tie.spec must-requires returns)

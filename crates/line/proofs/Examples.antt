@@ -1,0 +1,50 @@
+-- The order and the places of a line's first refusal, at full length: each example has faults that come later beside the one that counts.
+-- Assumes nothing.
+use mathlib.Core.Path.{_≡_, refl}
+use mathlib.Core.Bool.{false}
+use mathlib.Core.List.{List, [], _∷_, _++_}
+use Prim.Native.Nat.{ℕ}
+use lib.ListN.{replicate}
+use Rattle.refusals.specs.Outcomes.{passed, refused}
+use Rattle.line.specs.declared.Curve.{Curve}
+use Rattle.line.specs.declared.Line.{Line}
+use Rattle.line.specs.Checks.{startOutcome, headOutcome, distanceOutcome, curveOutcome, bodyOutcome, lineOutcome}
+
+-- A curve with radius R and spiral length L.
+abbrev curve : ℕ → ℕ → ℕ → Curve
+curve A R L = record { left = false; deflection = A; radius = R; spiral = L }
+
+-- A line of n curves at 70 km/h.
+abbrev lineOf : ℕ → ℕ → List ℕ → List Curve → Line
+lineOf n start distances curves =
+    record { speed = 70; crossfall = 8; start = start; count = n; distances = distances; curves = curves }
+
+abbrev good : Curve
+good = curve 177764 350000 40000
+
+abbrev bad : Curve
+bad = curve 0 0 1
+
+pub record Examples : Type 0 where
+  pub full-line : lineOutcome (lineOf 64 0 (replicate 65 500000) (replicate 64 good)) ≡ passed
+  pub distance-64 : lineOutcome (lineOf 64 0 (replicate 64 500000 ++ (0 ∷ [])) (replicate 64 good)) ≡ refused 8 64
+  pub curve-64 : lineOutcome (lineOf 64 0 (replicate 64 500000 ++ (0 ∷ [])) (replicate 63 good ++ (curve 1 350000 350001 ∷ []))) ≡ refused 11 64
+  pub distance-before-curve : lineOutcome (lineOf 64 0 (replicate 65 0) (replicate 64 bad)) ≡ refused 8 0
+  pub deflection-before-radius : lineOutcome (lineOf 64 0 (replicate 65 500000) (replicate 64 bad)) ≡ refused 9 1
+  pub start-before-distance : lineOutcome (lineOf 64 200000001 (replicate 65 0) (replicate 64 bad)) ≡ refused 6 0
+  pub count-before-start : lineOutcome (lineOf 65 200000001 (replicate 65 0) (replicate 64 bad)) ≡ refused 3 0
+  pub unused-entries : lineOutcome (lineOf 0 0 (1 ∷ replicate 64 0) (replicate 64 bad)) ≡ passed
+
+pub examples : Examples
+unfolding startOutcome headOutcome distanceOutcome curveOutcome bodyOutcome lineOutcome
+examples =
+    record {
+      full-line = refl;
+      distance-64 = refl;
+      curve-64 = refl;
+      distance-before-curve = refl;
+      deflection-before-radius = refl;
+      start-before-distance = refl;
+      count-before-start = refl;
+      unused-entries = refl;
+    }
