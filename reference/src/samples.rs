@@ -10,15 +10,15 @@ use reference::elements::{
 pub fn samples(seed: u64, count: usize) -> impl Iterator<Item = Curve> {
     let mut dice = Dice { state: seed };
     let random = std::iter::repeat_with(move || random_round(&mut dice)).flatten();
-    staked_cases()
+    document_cases()
         .into_iter()
         .chain(edges())
         .chain(random)
         .take(count)
 }
 
-/// Document 01, Staked cases.
-fn staked_cases() -> Vec<Curve> {
+/// The cases that document 01 gives.
+fn document_cases() -> Vec<Curve> {
     vec![
         // Case 1, which has the numbers of source document 002's example.
         Curve::new(177_764, 350_000, 40_000),

@@ -75,27 +75,24 @@ fn after_other(reading: Reading, byte: u8) -> Reading {
     next
 }
 
+fn print_number(number: u64, after: &[u8]) {
+    io::print_decimal(STDOUT_FILENO, number);
+    io::write_all(STDOUT_FILENO, after);
+}
+
 fn print_elements(e: Elements) {
-    io::print_decimal(STDOUT_FILENO, e.x);
-    io::write_all(STDOUT_FILENO, b" ");
-    io::print_decimal(STDOUT_FILENO, e.y);
-    io::write_all(STDOUT_FILENO, b" ");
-    io::print_decimal(STDOUT_FILENO, e.centre);
-    io::write_all(STDOUT_FILENO, b" ");
-    io::print_decimal(STDOUT_FILENO, e.shift);
-    io::write_all(STDOUT_FILENO, b" ");
-    io::print_decimal(STDOUT_FILENO, e.arc);
-    io::write_all(STDOUT_FILENO, b" ");
-    io::print_decimal(STDOUT_FILENO, e.tangent);
-    io::write_all(STDOUT_FILENO, b"\n");
+    print_number(e.x, b" ");
+    print_number(e.y, b" ");
+    print_number(e.centre, b" ");
+    print_number(e.shift, b" ");
+    print_number(e.arc, b" ");
+    print_number(e.tangent, b"\n");
 }
 
 fn print_refusal(refusal: Refusal) {
     io::write_all(STDOUT_FILENO, b"REFUSED ");
-    io::print_decimal(STDOUT_FILENO, refusal.number() as u64);
-    io::write_all(STDOUT_FILENO, b" ");
-    io::print_decimal(STDOUT_FILENO, refusal.place() as u64);
-    io::write_all(STDOUT_FILENO, b"\n");
+    print_number(refusal.number() as u64, b" ");
+    print_number(refusal.place() as u64, b"\n");
 }
 
 fn print_curve(reading: Reading) {
