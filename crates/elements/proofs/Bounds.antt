@@ -6,7 +6,7 @@ use Prim.Native.Nat.{ℕ, _+_, _-_, _*_, _/_, _≤_}
 use native.Mathlib.Nat.{mul-add, add-mul, mul-assoc, mul-comm, mul-left-comm, mul-zero, mul-le-mul, mul-le-mul-left, mul-le-mul-right, mul-div-le, div-le-of-le-mul}
 use native.Mathlib.Decide.{decLe}
 use native.Mathlib.Omega.{arith}
-use lib.IntN.{ℤ, pos, _-ℤ_, _*ℤ_}
+use lib.IntN.{ℤ, pos, _-ℤ_}
 use lib.Signed.{leZ}
 use borrow.Author.Tests.{leb-true}
 use Rattle.numbers.specs.Whole.{Between}
@@ -19,7 +19,7 @@ use Rattle.refusals.proofs.Joining.{passed-left, passed-right, need-holds}
 use Rattle.line.proofs.InRange.{curve-in-range}
 use Rattle.elements.specs.WorkingRule.{scale, rounded, fullAngle, halfAngle, spiralAngle, sineOf, cosineOf, unitX, unitY, spiralX, spiralY, centreOf, shiftOf, arcOf, tanOf, tangentOf}
 use Rattle.elements.specs.Answer.{arcOutcome, elementOutcome}
-use Rattle.elements.proofs.Rounding.{rounded-between, rounded-keeps-order}
+use Rattle.elements.proofs.Rounding.{rounded-between, rest-between}
 use Rattle.elements.proofs.SineAndCosine.{greatestAngle, sine-between, cosine-between, cosine-above}
 use Rattle.elements.proofs.UnitSpiral.{greatestSpiralAngle, unitX-between, unitY-between, unitY-quarter}
 
@@ -68,23 +68,30 @@ half-square R L t z u y a b d e =
       simp products at (mul-le-mul-left L e),
     )
 
-pub cosine-part : (R L : ℕ) {c y : ℕ} → L ≤ R → pos c ≡ cosineOf (spiralAngle R L) → pos y ≡ unitY (spiralAngle R L) → R * (scale - c) ≤ L * y
-cosine-part R L {c} {y} h ec ey = go (decLe 9 (spiralAngle R L))
+pub cosine-part : (R L : ℕ) {u y : ℕ} → L ≤ R → pos u ≡ pos scale -ℤ cosineOf (spiralAngle R L) → pos y ≡ unitY (spiralAngle R L) → R * u ≤ L * y
+cosine-part R L {u} {y} h eu ey = go (decLe 9 (spiralAngle R L))
   where
     m : spiralAngle R L ≤ greatestSpiralAngle
     m = spiral-angle-most R L h
 
-    go : Dec (9 ≤ spiralAngle R L) → R * (scale - c) ≤ L * y
+    c : Between (cosineOf (spiralAngle R L)) (scale - scale * (spiralAngle R L * spiralAngle R L / scale) / (scale * 2)) scale
+    c = cosine-between (spiralAngle R L) (omega (arith, m))
+
+    less : u ≡ scale - c .value
+    less =
+        let e : pos u ≡ pos (scale - c .value) = eu ∙ ap (λ (z : ℤ). pos scale -ℤ z) (c .same) ∙ minus-le (c .high) in
+        cc
+
+    go : Dec (9 ≤ spiralAngle R L) → R * u ≤ L * y
     go (yes n) =
-        half-square R L (spiralAngle R L) (spiralAngle R L * spiralAngle R L / scale) (scale - c) y
-        (omega (arith, at-least ec (cosine-between (spiralAngle R L) (omega (arith, m)))))
+        half-square R L (spiralAngle R L) (spiralAngle R L * spiralAngle R L / scale) u y
+        (omega (arith, less, c .low))
         (mul-div-le (spiralAngle R L * spiralAngle R L) scale)
         (angle-by-radius R L)
         (unitY-quarter (spiralAngle R L) m ey n)
     go (no n) =
         let small : spiralAngle R L ≤ 8 = omega arith in
-        let none : scale - c ≡ 0 =
-        omega (arith, at-least ec (cosine-between (spiralAngle R L) (omega (arith, m))), mul-le-mul small small) in
+        let none : u ≡ 0 = omega (arith, less, c .low, mul-le-mul small small) in
         rw (none, mul-zero) (omega arith)
 
 -- ---- the elements of the spirals
@@ -96,49 +103,45 @@ module _ (R L : ℕ) (R-most : R ≤ 5000000) (L-most : L ≤ 500000) (L-to-R : 
   length : Between (pos L) 0 500000
   length = natural L (omega arith) L-most
 
-  radius : Between (pos R) 0 5000000
-  radius = natural R (omega arith) R-most
-
   sine-t : Between (sineOf (spiralAngle R L)) 0 (spiralAngle R L)
   sine-t = sine-between (spiralAngle R L) (omega (arith, t-most))
 
-  cosine-t : Between (cosineOf (spiralAngle R L)) 451688645 scale
-  cosine-t = cosine-above (spiralAngle R L) (omega (arith, t-most))
-
   one-less-cosine : Between (pos scale -ℤ cosineOf (spiralAngle R L)) 0 scale
-  one-less-cosine = difference-between (natural scale {least = 0} {most = scale} (omega arith) (omega arith)) cosine-t (cosine-t .high)
+  one-less-cosine =
+      let c = cosine-above (spiralAngle R L) (omega (arith, t-most)) in
+      difference-between (natural scale {least = 0} {most = scale} (omega arith) (omega arith)) c (c .high)
+
+  x-t : Between (unitX (spiralAngle R L)) 975000000 scale
+  x-t = unitX-between (spiralAngle R L) t-most
+
+  y-t : Between (unitY (spiralAngle R L)) 0 166666666
+  y-t = unitY-between (spiralAngle R L) t-most
 
   pub X-between : Between (spiralX R L) 0 500000000
   unfolding spiralX
-  X-between = rounded-between 1000000 500000000 (product-between length (unitX-between (spiralAngle R L) t-most)) (omega arith)
+  X-between = rounded-between 1000000 500000000 (product-between length x-t) (omega arith)
 
   pub Y-between : Between (spiralY R L) 0 83333333
   unfolding spiralY
-  Y-between = rounded-between 1000000 83333333 (product-between length (unitY-between (spiralAngle R L) t-most)) (omega arith)
+  Y-between = rounded-between 1000000 83333333 (product-between length y-t) (omega arith)
 
   -- k is not below zero.
   pub k-between : Between (centreOf R L) 0 500000000
   unfolding centreOf spiralX
   k-between =
-      let part = rounded-between 1000000 2500000000 (product-between radius sine-t) (omega (arith, t-most)) in
-      difference-between X-between part
-      (rounded-keeps-order 1000000 (omega arith)
-      (sym (part .same) ∙ ap (λ (z : ℤ). rounded (pos R *ℤ z) 1000000) (sine-t .same))
-      (sym (X-between .same) ∙ ap (λ (z : ℤ). rounded (pos L *ℤ z) 1000000) (unitX-between (spiralAngle R L) t-most .same))
-      (sine-part R L L-to-R (sym (sine-t .same)) (sym (unitX-between (spiralAngle R L) t-most .same))))
+      rw (x-t .same, sine-t .same)
+      (rest-between (L * x-t .value) (R * sine-t .value) 1000000 500000000 (omega arith)
+      (sine-part R L L-to-R (sym (sine-t .same)) (sym (x-t .same)))
+      (omega (arith, mul-le-mul L-most (x-t .high))))
 
   -- p is not below zero.
   pub p-between : Between (shiftOf R L) 0 83333333
   unfolding shiftOf spiralY
   p-between =
-      let part = rounded-between 1000000 5000000000 (product-between radius one-less-cosine) (omega arith) in
-      let less : pos scale -ℤ cosineOf (spiralAngle R L) ≡ pos (scale - cosine-t .value) =
-      ap (λ (z : ℤ). pos scale -ℤ z) (cosine-t .same) ∙ minus-le (cosine-t .high) in
-      difference-between Y-between part
-      (rounded-keeps-order 1000000 (omega arith)
-      (sym (part .same) ∙ ap (λ (z : ℤ). rounded (pos R *ℤ z) 1000000) less)
-      (sym (Y-between .same) ∙ ap (λ (z : ℤ). rounded (pos L *ℤ z) 1000000) (unitY-between (spiralAngle R L) t-most .same))
-      (cosine-part R L L-to-R (sym (cosine-t .same)) (sym (unitY-between (spiralAngle R L) t-most .same))))
+      rw (y-t .same, one-less-cosine .same)
+      (rest-between (L * y-t .value) (R * one-less-cosine .value) 1000000 83333333 (omega arith)
+      (cosine-part R L L-to-R (sym (one-less-cosine .same)) (sym (y-t .same)))
+      (omega (arith, mul-le-mul L-most (y-t .high))))
 
 -- ---- the tangent of half the deflection, and the arc with its spirals
 
@@ -200,8 +203,8 @@ bounds A R L ok =
       full = full-angle-most A Am;
       half = half-angle-most A Am;
       t = t;
-      x = unitX-between (spiralAngle R L) t;
-      y = unitY-between (spiralAngle R L) t;
+      x = x-t R L Rm Lm LR;
+      y = y-t R L Rm Lm LR;
       sine = widen (sine-t R L Rm Lm LR) (omega arith) t;
       cosine = one-less-cosine R L Rm Lm LR;
       sine-half = sine-half A Am;

@@ -16,53 +16,23 @@ use Rattle.line.specs.Checks.{curveOutcome}
 use Rattle.refusals.specs.declared.Refusal.{Refusal}
 use Rattle.refusals.specs.declared.Verdict.{Verdict}
 use Rattle.refusals.specs.declared.Verdict.the-variants.{Pass, Refused}
-use Rattle.elements.specs.WorkingRule.{scale, rounded, fullAngle, halfAngle, spiralAngle, sineOf, cosineOf, unitX, unitY, spiralX, spiralY, centreOf, shiftOf, arcOf, tanOf, tangentOf}
+use Rattle.elements.specs.WorkingRule.{scale, rounded, fullAngle, halfAngle, sineOf, cosineOf, spiralX, spiralY, centreOf, shiftOf, arcOf, tanOf, tangentOf}
 use Rattle.elements.specs.Answer.{answered, declined, valuesBy, arcOutcome, elementOutcome, replyTo, elementReply}
-use Rattle.elements.proofs.Rounding.{rounded-between, rounded-keeps-order}
-use Rattle.elements.proofs.Bounds.{sine-part, cosine-part}
+use Rattle.elements.proofs.Rounding.{rounded-between}
 
--- ---- X, Y, k and p
+-- ---- X and k, or Y and p
 
-module _ (R L : ℕ) {t : ℕ} (at : t ≡ spiralAngle R L) where
-  pub computed-X : {x′ x : ℕ} → pos x′ ≡ unitX t → pos x ≡ rounded (pos (L * x′)) 1000000 → pos x ≡ spiralX R L
-  unfolding spiralX
-  computed-X e p = p ∙ ap (λ (z : ℤ). rounded (pos L *ℤ z) 1000000) (e ∙ ap unitX at)
+pub computed-end : (L : ℕ) {x u : ℕ} {a : ℤ} → pos x ≡ a → pos u ≡ rounded (pos (L * x)) 1000000 → pos u ≡ rounded (pos L *ℤ a) 1000000
+computed-end L ex e = e ∙ ap (λ (z : ℤ). rounded (pos L *ℤ z) 1000000) ex
 
-  pub computed-Y : {y′ y : ℕ} → pos y′ ≡ unitY t → pos y ≡ rounded (pos (L * y′)) 1000000 → pos y ≡ spiralY R L
-  unfolding spiralY
-  computed-Y e p = p ∙ ap (λ (z : ℤ). rounded (pos L *ℤ z) 1000000) (e ∙ ap unitY at)
+pub computed-rest : (L R : ℕ) {x s u : ℕ} {a b : ℤ} → pos x ≡ a → pos s ≡ b
+    → pos u ≡ rounded (pos (L * x)) 1000000 -ℤ rounded (pos (R * s)) 1000000
+    → pos u ≡ rounded (pos L *ℤ a) 1000000 -ℤ rounded (pos R *ℤ b) 1000000
+computed-rest L R ex es e = e ∙ (λ j. rounded (pos L *ℤ ex j) 1000000 -ℤ rounded (pos R *ℤ es j) 1000000)
 
-  module _ (h : L ≤ R) where
-    module _ {x′ x s along : ℕ} (ex : pos x′ ≡ unitX t) (px : pos x ≡ rounded (pos (L * x′)) 1000000)
-        (es : pos s ≡ sineOf t) (ps : pos along ≡ rounded (pos (R * s)) 1000000) where
-      along-part : R * s ≤ L * x′
-      along-part = sine-part R L h (es ∙ ap sineOf at) (ex ∙ ap unitX at)
-
-      pub along-fits : along ≤ x
-      along-fits = rounded-keeps-order 1000000 (omega arith) ps px along-part
-
-      pub computed-k : pos (x - along) ≡ centreOf R L
-      unfolding centreOf
-      computed-k =
-          sym (minus-le along-fits)
-          ∙ (λ j. computed-X ex px j -ℤ (ps ∙ ap (λ (z : ℤ). rounded (pos R *ℤ z) 1000000) (es ∙ ap sineOf at)) j)
-
-    module _ {y′ y c across : ℕ} (ey : pos y′ ≡ unitY t) (py : pos y ≡ rounded (pos (L * y′)) 1000000)
-        (ec : pos c ≡ cosineOf t) (c-most : c ≤ scale) (pc : pos across ≡ rounded (pos (R * (scale - c))) 1000000) where
-      across-part : R * (scale - c) ≤ L * y′
-      across-part = cosine-part R L h (ec ∙ ap cosineOf at) (ey ∙ ap unitY at)
-
-      pub across-fits : across ≤ y
-      across-fits = rounded-keeps-order 1000000 (omega arith) pc py across-part
-
-      one-less : pos (scale - c) ≡ pos scale -ℤ cosineOf (spiralAngle R L)
-      one-less = sym (minus-le c-most) ∙ ap (λ (z : ℤ). pos scale -ℤ z) (ec ∙ ap cosineOf at)
-
-      pub computed-p : pos (y - across) ≡ shiftOf R L
-      unfolding shiftOf
-      computed-p =
-          sym (minus-le across-fits)
-          ∙ (λ j. computed-Y ey py j -ℤ (pc ∙ ap (λ (z : ℤ). rounded (pos R *ℤ z) 1000000) one-less) j)
+-- 10⁹ less a cosine.
+pub computed-one-less : {c t t′ : ℕ} → t ≡ t′ → pos c ≡ cosineOf t → c ≤ scale → pos (scale - c) ≡ pos scale -ℤ cosineOf t′
+computed-one-less at e h = sym (minus-le h) ∙ ap (λ (z : ℤ). pos scale -ℤ z) (e ∙ ap cosineOf at)
 
 -- ---- tan and TT
 

@@ -5,7 +5,7 @@ ghost use lib.IntN.{pos};
 ghost use Rattle.line.specs.Ranges.{CurveInRange};
 ghost use Rattle.elements.specs.WorkingRule.{scale, rounded, fullAngle, halfAngle, spiralAngle, unitX, unitY, arcOf, tanOf};
 ghost use Rattle.elements.specs.Answer.{answered, replyOf, replyTo, valuesBy, arcOutcome, elementReply};
-ghost use Rattle.elements.specs.SpiralElements.{SpiralsOf};
+ghost use Rattle.elements.specs.SpiralElements.{OffsetOf, SpiralsOf};
 ghost use Rattle.elements.specs.declared.ElementAnswer.the-variants.{Found};
 use crate::ElementAnswer;
 use crate::Elements;
@@ -13,6 +13,12 @@ use crate::series::cosine;
 use crate::series::sine;
 use refusals::Refusal;
 use refusals::Verdict;
+
+// A coordinate of the spiral's end, and what is left of it without the radius's part.
+struct Offset {
+    end: u64,
+    rest: u64,
+}
 
 // What the radius and the spiral give alone: X, Y, k and p.
 struct Spirals {
@@ -87,20 +93,32 @@ fn unit_y(t: u64) -> u64
     t / 3 - t3 / 42
 }
 
+// X and k, or Y and p: a length times a ratio, and that less a radius times its part.
+fn offset_of(length: u64, ratio: u64, radius: u64, part: u64) -> Offset
+    requires { ⌜ (length ≤ 500000) × (ratio ≤ 1000000000) × (radius ≤ 5000000) × (part ≤ 1000000000) ⌝ }
+    requires { ⌜ radius * part ≤ length * ratio ⌝ }
+    ensures { λ o. ⌜ OffsetOf length ratio radius part o ⌝ }
+{
+    let end = micrometres(length, ratio);
+    let taken = micrometres(radius, part);
+    Offset {
+        end,
+        rest: end - taken,
+    }
+}
+
 fn spirals_of(radius: u64, spiral: u64) -> Spirals
     requires { ⌜ (20000 ≤ radius) × (radius ≤ 5000000) × (spiral ≤ 500000) × (spiral ≤ radius) ⌝ }
     ensures { λ s. ⌜ SpiralsOf radius spiral s ⌝ }
 {
     let t = spiral_angle(radius, spiral);
-    let x = micrometres(spiral, unit_x(t));
-    let y = micrometres(spiral, unit_y(t));
-    let along = micrometres(radius, sine(t));
-    let across = micrometres(radius, 1000000000 - cosine(t));
+    let along = offset_of(spiral, unit_x(t), radius, sine(t));
+    let across = offset_of(spiral, unit_y(t), radius, 1000000000 - cosine(t));
     Spirals {
-        x,
-        y,
-        centre: x - along,
-        shift: y - across,
+        x: along.end,
+        y: across.end,
+        centre: along.rest,
+        shift: across.rest,
     }
 }
 

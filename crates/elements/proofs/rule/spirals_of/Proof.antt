@@ -1,7 +1,9 @@
--- `spirals_of`: what is taken away is no greater than X and Y, so k and p are natural numbers. Assumes nothing.
+-- `spirals_of`: the parts that are taken away are no greater, so k and p are natural numbers. Assumes nothing.
 use Rattle.numbers.proofs.Ranges.{at-most}
-use Rattle.elements.proofs.Bounds.{k-between, p-between}
-use Rattle.elements.proofs.Computed.{along-fits, across-fits, computed-X, computed-Y, computed-k, computed-p}
+use mathlib.Core.Path.{_∙_, ap}
+use Rattle.elements.specs.WorkingRule.{sineOf, unitX, unitY, spiralX, spiralY, centreOf, shiftOf}
+use Rattle.elements.proofs.Bounds.{sine-part, cosine-part, k-between, p-between}
+use Rattle.elements.proofs.Computed.{computed-end, computed-rest, computed-one-less}
 use borrow.Author.Needs.{needs}
 use Rattle.elements.proofs.rule.spirals_of.Statement.{statement}
 use Rattle.elements.proofs.rule.spirals_of.Tie as tie
@@ -12,63 +14,50 @@ spiral-angle-requires c κs = search needs
 unit-x-requires : tie.Need-unit-x-requires
 unit-x-requires c κs = search needs
 
-micrometres-requires : tie.Need-micrometres-requires
-micrometres-requires c κs = search needs
+sine-requires : tie.Need-sine-requires
+sine-requires c κs = search needs
+
+offset-of-requires : tie.Need-offset-of-requires
+offset-of-requires c κs =
+    let start = c .before .before .before in
+    let t = c .before .before .spiral-angle .ensures .0 in (
+      search needs,
+      sine-part (start .args .radius) (start .args .spiral) (start .pre .3) (c .sine .ensures .0 ∙ ap sineOf t) (c .before .unit-x .ensures .0 ∙ ap unitX t),
+    )
 
 unit-y-requires : tie.Need-unit-y-requires
 unit-y-requires c κs = search needs
 
-micrometres-requires-2 : tie.Need-micrometres-requires-2
-micrometres-requires-2 c κs = search needs
-
-sine-requires : tie.Need-sine-requires
-sine-requires c κs = search needs
-
-micrometres-requires-3 : tie.Need-micrometres-requires-3
-micrometres-requires-3 c κs = search needs
-
 cosine-requires : tie.Need-cosine-requires
 cosine-requires c κs = search needs
 
-sub-micrometres : tie.Need-sub-micrometres
-sub-micrometres c = search needs
+sub-offset-of : tie.Need-sub-offset-of
+sub-offset-of c = search needs
 
-micrometres-requires-4 : tie.Need-micrometres-requires-4
-micrometres-requires-4 c κs = search needs
-
-sub-t8 : tie.Need-sub-t8
-sub-t8 c =
-    let near = c .before .before .before in
-    let mid = near .before .before .before in
-    let start = mid .before .before .before in
-    let R = start .args .radius in
-    let L = start .args .spiral in
-    let t = mid .before .before .spiral-angle .ensures .0 in
-    along-fits R L t (start .pre .3) (mid .before .unit-x .ensures .0) (mid .micrometres .ensures) (near .sine .ensures .0) (c .before .before .micrometres3 .ensures)
-
-sub-t9 : tie.Need-sub-t9
-sub-t9 c =
-    let near = c .before .before .before in
-    let mid = near .before .before .before in
-    let start = mid .before .before .before in
-    let R = start .args .radius in
-    let L = start .args .spiral in
-    let t = mid .before .before .spiral-angle .ensures .0 in
-    across-fits R L t (start .pre .3) (near .before .before .unit-y .ensures .0) (near .before .micrometres2 .ensures) (c .before .cosine .ensures .0) (c .before .cosine .ensures .2) (c .micrometres4 .ensures)
+offset-of-requires-2 : tie.Need-offset-of-requires-2
+offset-of-requires-2 c κs =
+    let start = c .before .before .before .before .before .before in
+    let t = c .before .before .before .before .before .spiral-angle .ensures .0 in (
+      search needs,
+      cosine-part (start .args .radius) (start .args .spiral) (start .pre .3) (computed-one-less t (c .cosine .ensures .0) (c .cosine .ensures .2)) (c .before .unit-y .ensures .0 ∙ ap unitY t),
+    )
 
 returns : tie.Need-returns
+unfolding spiralX spiralY centreOf shiftOf
 returns c =
-    let near = c .before .before .before in
-    let mid = near .before .before .before in
-    let start = mid .before .before .before in
+    let first = c .before .before .before in
+    let angle = first .before .before .before in
+    let start = angle .before in
     let R = start .args .radius in
     let L = start .args .spiral in
-    let t = mid .before .before .spiral-angle .ensures .0 in
-    let k = computed-k R L t (start .pre .3) (mid .before .unit-x .ensures .0) (mid .micrometres .ensures) (near .sine .ensures .0) (c .before .before .micrometres3 .ensures) in
-    let p = computed-p R L t (start .pre .3) (near .before .before .unit-y .ensures .0) (near .before .micrometres2 .ensures) (c .before .cosine .ensures .0) (c .before .cosine .ensures .2) (c .micrometres4 .ensures) in
+    let t = angle .spiral-angle .ensures .0 in
+    let x = first .before .before .unit-x .ensures .0 ∙ ap unitX t in
+    let y = c .before .before .unit-y .ensures .0 ∙ ap unitY t in
+    let k = computed-rest L R x (first .before .sine .ensures .0 ∙ ap sineOf t) (first .offset-of .ensures .rest) in
+    let p = computed-rest L R y (computed-one-less t (c .before .cosine .ensures .0) (c .before .cosine .ensures .2)) (c .offset-of2 .ensures .rest) in
     record {
-      X = computed-X R L t (mid .before .unit-x .ensures .0) (mid .micrometres .ensures);
-      Y = computed-Y R L t (near .before .before .unit-y .ensures .0) (near .before .micrometres2 .ensures);
+      X = computed-end L x (first .offset-of .ensures .end);
+      Y = computed-end L y (c .offset-of2 .ensures .end);
       k = k;
       p = p;
       k-most = at-most k (k-between R L (start .pre .1) (start .pre .2) (start .pre .3));
@@ -81,14 +70,10 @@ spirals-of-spec =
     (tie.spec
     spiral-angle-requires
     unit-x-requires
-    micrometres-requires
-    unit-y-requires
-    micrometres-requires-2
     sine-requires
-    micrometres-requires-3
+    offset-of-requires
+    unit-y-requires
     cosine-requires
-    sub-micrometres
-    micrometres-requires-4
-    sub-t8
-    sub-t9
+    sub-offset-of
+    offset-of-requires-2
     returns)
