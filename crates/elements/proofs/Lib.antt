@@ -4,4 +4,5 @@ pub mod SineAndCosine
 pub mod UnitSpiral
 pub mod Bounds
 pub mod Computed
+pub mod Replies
 pub mod Examples

@@ -1,24 +1,24 @@
 -- A check passes exactly where the fields are in range. Assumes nothing.
 use mathlib.Core.Path.{_≡_, refl}
 use mathlib.Core.Logic.{_⊎_, inl, inr, ⊎-elim}
-use mathlib.Core.Bool.{Bool, true, false}
+use mathlib.Core.Bool.{Bool, true, false, _&&_}
 use Prim.Native.Nat.{ℕ, zero, suc, _%_, _≤_}
 use native.Mathlib.Decide.{decLe}
 use native.Mathlib.Omega.{arith}
 use lib.Arith.{le-zero}
 use lib.Dec.{leb, eqb}
-use borrow.Author.Tests.{leb-true, eqb-true, le-leb}
+use borrow.Author.Tests.{leb-true, eqb-true, le-leb, eq-eqb}
 use Rattle.line.specs.declared.Line.{Line}
 use Rattle.refusals.specs.Outcomes.{passed, need}
-use Rattle.line.specs.Checks.{_&_, within, greatestStart, startOutcome, headOutcome, distanceOutcome, curveOutcome, distanceAt, curveAt, bodyOutcome, lineOutcome}
+use Rattle.line.specs.Checks.{within, greatestStart, startOutcome, headOutcome, distanceOutcome, curveOutcome, distanceAt, curveAt, bodyOutcome, lineOutcome}
 use Rattle.line.specs.Ranges.{CurveInRange, LineInRange}
 use Rattle.refusals.proofs.Joining.{passed-left, passed-right, need-holds}
 
-both-left : (a b : Bool) → a & b ≡ true → a ≡ true
+both-left : (a b : Bool) → a && b ≡ true → a ≡ true
 both-left true b e = refl
 both-left false b e = cc
 
-both-right : (a b : Bool) → a & b ≡ true → b ≡ true
+both-right : (a b : Bool) → a && b ≡ true → b ≡ true
 both-right true b e = e
 both-right false b e = cc
 
@@ -36,7 +36,7 @@ curve-in-range A R L place h =
     let a = need-holds _ 9 place (passed-left (need (within 1 432000 A) 9 place) _ h) in
     let h₁ = passed-right (need (within 1 432000 A) 9 place) _ h in
     let r = need-holds _ 10 place (passed-left (need (within 20000 5000000 R) 10 place) _ h₁) in
-    let l = need-holds (leb L 500000 & leb L R) 11 place (passed-right (need (within 20000 5000000 R) 10 place) _ h₁) in
+    let l = need-holds (leb L 500000 && leb L R) 11 place (passed-right (need (within 20000 5000000 R) 10 place) _ h₁) in
     record {
       A-least = within-least 1 432000 A a;
       A-most = within-most 1 432000 A a;
@@ -105,8 +105,8 @@ line-in-range l h =
     let head = passed-left (headOutcome n v e (l .start)) _ h in
     let body = passed-right (headOutcome n v e (l .start)) (bodyOutcome l n) h in
     let h₁ = passed-right (need (leb n 64) 3 0) _ head in
-    let speed = need-holds (within 40 120 v & eqb (v % 10) 0) 4 0 (passed-left (need (within 40 120 v & eqb (v % 10) 0) 4 0) _ h₁) in
-    let h₂ = passed-right (need (within 40 120 v & eqb (v % 10) 0) 4 0) _ h₁ in
+    let speed = need-holds (within 40 120 v && eqb (v % 10) 0) 4 0 (passed-left (need (within 40 120 v && eqb (v % 10) 0) 4 0) _ h₁) in
+    let h₂ = passed-right (need (within 40 120 v && eqb (v % 10) 0) 4 0) _ h₁ in
     let fall = need-holds (within 2 12 e) 5 0 (passed-left (need (within 2 12 e) 5 0) _ h₂) in
     let start = need-holds (leb (l .start) greatestStart) 6 0 (passed-right (need (within 2 12 e) 5 0) _ h₂) in
     record {
@@ -121,3 +121,30 @@ line-in-range l h =
       distance-most = λ i m. within-most 1 20000000 (distanceAt l i) (last-distance l i (body-below l n i m body));
       curve = λ i m. last-curve l i (body-below l n (suc i) m body);
     }
+
+-- And a line in range passes.
+within-holds : (least most x : ℕ) → least ≤ x → x ≤ most → within least most x ≡ true
+within-holds least most x l h = rw (le-leb least x l, le-leb x most h)
+
+body-passes : (l : Line) → LineInRange l → (i : ℕ) → i ≤ l .count → bodyOutcome l i ≡ passed
+unfolding bodyOutcome distanceOutcome
+body-passes l ok zero h = rw (within-holds 1 20000000 (distanceAt l 0) (ok .distance-least 0 h) (ok .distance-most 0 h))
+body-passes l ok (suc i) h =
+    let c = curveAt l i in
+    rw (
+      body-passes l ok i (omega arith),
+      curve-passes (c .deflection) (c .radius) (c .spiral) (suc i) (ok .curve i h),
+      within-holds 1 20000000 (distanceAt l (suc i)) (ok .distance-least (suc i) h) (ok .distance-most (suc i) h),
+    )
+
+pub line-passes : (l : Line) → LineInRange l → lineOutcome l ≡ passed
+unfolding lineOutcome headOutcome startOutcome
+line-passes l ok =
+    rw (
+      le-leb (l .count) 64 (ok .few),
+      within-holds 40 120 (l .speed) (ok .speed-least) (ok .speed-most),
+      eq-eqb (l .speed % 10) 0 (ok .speed-tens),
+      within-holds 2 12 (l .crossfall) (ok .crossfall-least) (ok .crossfall-most),
+      le-leb (l .start) greatestStart (ok .start-most),
+    )
+    (body-passes l ok (l .count) (omega arith))

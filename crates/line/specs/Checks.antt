@@ -1,5 +1,5 @@
 -- The checks of a line's fields, in the words and the order of document 01: "The line", "Refusal table" and "Order".
-use mathlib.Core.Bool.{Bool, true, false}
+use mathlib.Core.Bool.{Bool, false, _&&_}
 use Prim.Native.Nat.{ℕ, zero, suc, _%_}
 use lib.Dec.{leb, eqb}
 use lib.ListN.{getD}
@@ -7,15 +7,9 @@ use Rattle.line.specs.declared.Curve.{Curve}
 use Rattle.line.specs.declared.Line.{Line}
 use Rattle.refusals.specs.Outcomes.{Outcome, need, _▹_}
 
--- Both tests hold.
-infixr 30 _&_
-abbrev pub _&_ : Bool → Bool → Bool
-true & b = b
-false & b = false
-
 -- `least` to `most`, both included.
 abbrev pub within : ℕ → ℕ → ℕ → Bool
-within least most x = leb least x & leb x most
+within least most x = leb least x && leb x most
 
 -- "start station, 0 to 200,000,000 mm"
 abbrev pub greatestStart : ℕ
@@ -29,7 +23,7 @@ startOutcome start = need (leb start greatestStart) 6 0
 unfoldable pub headOutcome : ℕ → ℕ → ℕ → ℕ → Outcome
 headOutcome count speed crossfall start =
     need (leb count 64) 3 0
-    ▹ need (within 40 120 speed & eqb (speed % 10) 0) 4 0
+    ▹ need (within 40 120 speed && eqb (speed % 10) 0) 4 0
     ▹ need (within 2 12 crossfall) 5 0
     ▹ startOutcome start
 
@@ -42,7 +36,7 @@ unfoldable pub curveOutcome : ℕ → ℕ → ℕ → ℕ → Outcome
 curveOutcome A R L place =
     need (within 1 432000 A) 9 place
     ▹ need (within 20000 5000000 R) 10 place
-    ▹ need (leb L 500000 & leb L R) 11 place
+    ▹ need (leb L 500000 && leb L R) 11 place
 
 -- The distance of an index, 0 to n.
 abbrev pub distanceAt : Line → ℕ → ℕ

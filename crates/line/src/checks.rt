@@ -1,8 +1,9 @@
 // The checks of a line's fields: refusals 3 to 6, then 8 to 11 in sheet order.
 ghost use mathlib.Core.Path.{_≡_};
+ghost use mathlib.Core.Bool.{_&&_};
 ghost use Prim.Native.Nat.{_≤_};
 ghost use Rattle.refusals.specs.Outcomes.{outcomeOf, _▹_};
-ghost use Rattle.line.specs.Checks.{_&_, within, startOutcome, headOutcome, distanceOutcome, curveOutcome, bodyOutcome, lineOutcome};
+ghost use Rattle.line.specs.Checks.{within, startOutcome, headOutcome, distanceOutcome, curveOutcome, bodyOutcome, lineOutcome};
 use crate::Curve;
 use crate::Line;
 use refusals::Refusal;
@@ -18,7 +19,7 @@ fn between(least: u32, most: u32, x: u32) -> bool
 }
 
 fn both(a: bool, b: bool) -> bool
-    ensures { λ r. ⌜ r ≡ a & b ⌝ }
+    ensures { λ r. ⌜ r ≡ a && b ⌝ }
 {
     if a { b } else { false }
 }

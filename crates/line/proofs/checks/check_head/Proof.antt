@@ -1,10 +1,10 @@
 -- `check_head`: the code joins its verdicts as the definition does, in the same order. Assumes nothing.
 use mathlib.Core.Path.{_∙_, ap}
-use mathlib.Core.Bool.{Bool}
+use mathlib.Core.Bool.{Bool, _&&_}
 use Prim.Native.Nat.{_%_}
 use lib.Dec.{eqb}
 use Rattle.refusals.proofs.Joining.{join, tested}
-use Rattle.line.specs.Checks.{_&_, headOutcome}
+use Rattle.line.specs.Checks.{headOutcome}
 use Rattle.line.proofs.checks.check_head.Statement.{statement}
 use Rattle.line.proofs.checks.check_head.Tie as tie
 
@@ -48,7 +48,7 @@ returns c =
     c .first3 .ensures
     ∙ join (count .must .ensures)
     (c .before .first2 .ensures
-    ∙ join (tested 4 0 (speed .must2 .ensures) (speed .before .both .ensures ∙ ap (λ (t : Bool). t & eqb (count .before .args .speed % 10) 0) (speed .before .before .between .ensures)))
+    ∙ join (tested 4 0 (speed .must2 .ensures) (speed .before .both .ensures ∙ ap (λ (t : Bool). t && eqb (count .before .args .speed % 10) 0) (speed .before .before .between .ensures)))
     (c .before .before .first .ensures
     ∙ join (tested 5 0 (fall .must3 .ensures) (fall .before .between2 .ensures)) (start .check-start .ensures)))
 
