@@ -1,5 +1,5 @@
 -- What a caller learns from the element call's answer. Assumes nothing.
-use mathlib.Core.Path.{_≡_, refl, sym, _∙_, ap}
+use mathlib.Core.Path.{_≡_, refl, sym, ap}
 use mathlib.Core.Bool.{Bool, true, false}
 use Prim.Native.Nat.{ℕ, _≤_}
 use native.Mathlib.Omega.{arith}
@@ -7,7 +7,7 @@ use lib.IntN.{pos}
 use lib.Signed.{leZ}
 use Rattle.numbers.proofs.Ranges.{at-least, at-most}
 use Rattle.refusals.specs.declared.Refusal.{Refusal}
-use Rattle.refusals.specs.Outcomes.{Outcome, passed, refused, need, _▹_}
+use Rattle.refusals.specs.Outcomes.{Outcome, passed, refused, need}
 use Rattle.refusals.proofs.Joining.{passed-left}
 use Rattle.line.specs.Checks.{curveOutcome}
 use Rattle.line.specs.Ranges.{CurveInRange}
