@@ -1,5 +1,6 @@
 -- Laws of the working rule, and document 01's examples.
 pub mod Rounding
+pub mod Alternating
 pub mod SineAndCosine
 pub mod UnitSpiral
 pub mod Bounds

@@ -1,5 +1,4 @@
--- The sine and the cosine: an alternating series of falling terms lies between its first term and that less the second.
--- So neither is below zero, and the cosine of a half angle stays above 0.45. Assumes nothing.
+-- The sine and the cosine: their terms fall, so neither is below zero, and the cosine of a half angle stays above 0.45. Assumes nothing.
 use mathlib.Core.Path.{_≡_, sym, _∙_, ap}
 use Prim.Native.Nat.{ℕ, suc, _+_, _-_, _*_, _/_, _≤_}
 use native.Mathlib.Nat.{mul-comm, mul-le-mul, mul-le-mul-left, div-le-of-le-mul}
@@ -8,6 +7,7 @@ use lib.IntN.{pos}
 use Rattle.numbers.specs.Whole.{Between}
 use Rattle.numbers.proofs.Differences.{minus-le}
 use Rattle.elements.specs.WorkingRule.{scale, term, alternating, sineOf, cosineOf}
+use Rattle.elements.proofs.Alternating.{falling-least}
 
 -- The greatest angle: half of 120°, and more than a spiral's half radian.
 abbrev pub greatestAngle : ℕ
@@ -18,19 +18,14 @@ pub next-falls : (former z divisor : ℕ) → z ≤ scale * divisor → former *
 next-falls former z divisor h =
     div-le-of-le-mul (scale * divisor) (rw (mul-comm (scale * divisor) former) (mul-le-mul-left former h))
 
--- Seven falling terms, written out, and the range of their sum.
-module _ (t : ℕ → ℕ) (h1 : t 1 ≤ t 0) (h2 : t 2 ≤ t 1) (h3 : t 3 ≤ t 2) (h4 : t 4 ≤ t 3) (h5 : t 5 ≤ t 4) (h6 : t 6 ≤ t 5) where
-  pub seven-terms : alternating t 6 ≡ pos (t 0 + t 2 + t 4 + t 6 - (t 1 + t 3 + t 5))
-  unfolding alternating
-  seven-terms =
-      let two : t 3 ≤ t 0 - t 1 + t 2 = omega arith in
-      let four : t 5 ≤ t 0 - t 1 + t 2 - t 3 + t 4 = omega arith in
-      rw (minus-le h1, minus-le two, minus-le four) (ap pos (omega arith))
-
-  pub falling-between : Between (alternating t 6) (t 0 - t 1) (t 0)
-  falling-between =
-      record
-      { value = t 0 + t 2 + t 4 + t 6 - (t 1 + t 3 + t 5); same = seven-terms; low = omega arith; high = omega arith }
+-- Seven falling terms, written out.
+seven-terms : (t : ℕ → ℕ) → t 1 ≤ t 0 → t 2 ≤ t 1 → t 3 ≤ t 2 → t 4 ≤ t 3 → t 5 ≤ t 4 → t 6 ≤ t 5
+    → alternating t 6 ≡ pos (t 0 + t 2 + t 4 + t 6 - (t 1 + t 3 + t 5))
+unfolding alternating
+seven-terms t h1 h2 h3 h4 h5 h6 =
+    let two : t 3 ≤ t 0 - t 1 + t 2 = omega arith in
+    let four : t 5 ≤ t 0 - t 1 + t 2 - t 3 + t 4 = omega arith in
+    rw (minus-le h1, minus-le two, minus-le four) (ap pos (omega arith))
 
 -- The same sum, of terms that were computed one after the other.
 pub computed-series : (divisor : ℕ → ℕ) (first z : ℕ) {t1 t2 t3 t4 t5 t6 d1 d2 d3 d4 d5 d6 : ℕ}
@@ -57,13 +52,12 @@ computed-series divisor first z {t1} {t2} {t3} {t4} {t5} {t6} n1 n2 n3 n4 n5 n6 
     (omega (arith, q4, q5, n5 .1))
     (omega (arith, q5, q6, n6 .1)))
 
-pub series-between : (divisor : ℕ → ℕ) (first z : ℕ) → ((j : ℕ) → z ≤ scale * divisor (suc j))
-    → Between (alternating (term divisor first z) 6) (first - first * z / (scale * divisor 1)) first
+-- The range of a series whose terms fall, of any number of terms.
+pub series-between : (divisor : ℕ → ℕ) (first z n : ℕ) → ((j : ℕ) → z ≤ scale * divisor (suc j))
+    → Between (alternating (term divisor first z) (suc n)) (first - first * z / (scale * divisor 1)) first
 unfolding term
-series-between divisor first z falls = falling-between (term divisor first z) (f 0) (f 1) (f 2) (f 3) (f 4) (f 5)
-  where
-    f : (j : ℕ) → term divisor first z (suc j) ≤ term divisor first z j
-    f j = next-falls (term divisor first z j) z (divisor (suc j)) (falls j)
+series-between divisor first z n falls =
+    falling-least (term divisor first z) (λ j. next-falls (term divisor first z j) z (divisor (suc j)) (falls j)) n
 
 -- The square of an angle.
 pub square-most : (q : ℕ) → q ≤ greatestAngle → q * q / scale ≤ 1096622710
@@ -72,7 +66,7 @@ square-most q h = omega (arith, mul-le-mul h h)
 pub sine-between : (q : ℕ) → q ≤ greatestAngle → Between (sineOf q) 0 q
 unfolding sineOf
 sine-between q h =
-    let b = series-between (λ j. 2 * j * (2 * j + 1)) q (q * q / scale) falls in
+    let b = series-between (λ j. 2 * j * (2 * j + 1)) q (q * q / scale) 5 falls in
     record { value = b .value; same = b .same; low = omega arith; high = b .high }
   where
     falls : (j : ℕ) → q * q / scale ≤ scale * (2 * suc j * (2 * suc j + 1))
@@ -82,7 +76,7 @@ sine-between q h =
 
 pub cosine-between : (q : ℕ) → q ≤ greatestAngle → Between (cosineOf q) (scale - scale * (q * q / scale) / (scale * 2)) scale
 unfolding cosineOf
-cosine-between q h = series-between (λ j. (2 * j - 1) * (2 * j)) scale (q * q / scale) falls
+cosine-between q h = series-between (λ j. (2 * j - 1) * (2 * j)) scale (q * q / scale) 5 falls
   where
     falls : (j : ℕ) → q * q / scale ≤ scale * ((2 * suc j - 1) * (2 * suc j))
     falls j =

@@ -3,6 +3,10 @@ mod rule;
 mod series;
 
 use refusals::Refusal;
+
+// The scale of angles and ratios.
+const SCALE: u64 = 1000000000;
+
 pub use rule::curve_elements;
 
 // The elements of a curve, in µm.

@@ -9,6 +9,7 @@ ghost use Rattle.elements.specs.SpiralElements.{OffsetOf, SpiralsOf};
 ghost use Rattle.elements.specs.declared.ElementAnswer.the-variants.{Found};
 use crate::ElementAnswer;
 use crate::Elements;
+use crate::SCALE;
 use crate::series::cosine;
 use crate::series::sine;
 use refusals::Refusal;
@@ -49,7 +50,7 @@ fn angle_product(a: u64, b: u64) -> u64
     requires { ⌜ (a ≤ 500000000) × (b ≤ 500000000) ⌝ }
     ensures { λ r. ⌜ (r ≡ a * b / scale) × (2 * r ≤ b) ⌝ }
 {
-    a * b / 1000000000
+    a * b / SCALE
 }
 
 fn full_angle(deflection: u64) -> u64
@@ -80,7 +81,7 @@ fn unit_x(t: u64) -> u64
 {
     let t2 = angle_product(t, t);
     let t4 = angle_product(t2, t2);
-    1000000000 - t2 / 10 + t4 / 216
+    SCALE - t2 / 10 + t4 / 216
 }
 
 // y of the spiral of length one.
@@ -113,7 +114,7 @@ fn spirals_of(radius: u64, spiral: u64) -> Spirals
 {
     let t = spiral_angle(radius, spiral);
     let along = offset_of(spiral, unit_x(t), radius, sine(t));
-    let across = offset_of(spiral, unit_y(t), radius, 1000000000 - cosine(t));
+    let across = offset_of(spiral, unit_y(t), radius, SCALE - cosine(t));
     Spirals {
         x: along.end,
         y: across.end,
@@ -128,7 +129,7 @@ fn tan_half(deflection: u64) -> u64
     ensures { λ r. ⌜ (pos r ≡ tanOf deflection) × (r ≤ 2318405749) ⌝ }
 {
     let half = half_angle(deflection);
-    sine(half) * 1000000000 / cosine(half)
+    sine(half) * SCALE / cosine(half)
 }
 
 // The elements of a curve in range, whose arc is known.
@@ -138,7 +139,7 @@ fn elements_of(deflection: u64, radius: u64, spiral: u64, arc: u64) -> Elements
     ensures { λ e. ⌜ replyOf (Found e) ≡ answered (valuesBy deflection radius spiral) ⌝ }
 {
     let s = spirals_of(radius, spiral);
-    let beyond = round((1000 * radius + s.shift) * tan_half(deflection), 1000000000);
+    let beyond = round((1000 * radius + s.shift) * tan_half(deflection), SCALE);
     Elements {
         x: s.x,
         y: s.y,

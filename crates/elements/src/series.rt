@@ -3,13 +3,14 @@ ghost use mathlib.Core.Path.{_≡_};
 ghost use Prim.Native.Nat.{ℕ, _+_, _*_, _/_, _≤_};
 ghost use lib.IntN.{pos};
 ghost use Rattle.elements.specs.WorkingRule.{scale, term, alternating, sineOf, cosineOf};
+use crate::SCALE;
 
 // The square of an angle.
 fn square(q: u64) -> u64
     requires { ⌜ q ≤ 1047197551 ⌝ }
     ensures { λ r. ⌜ (r ≡ q * q / scale) × (r ≤ 1096622710) ⌝ }
 {
-    q * q / 1000000000
+    q * q / SCALE
 }
 
 // The term of a series after the former one, which is no greater.
@@ -17,7 +18,7 @@ fn next_term(former: u64, z: u64, divisor: u64) -> u64
     requires { ⌜ (former ≤ 1047197551) × (z ≤ 1096622710) × (2 ≤ divisor) × (divisor ≤ 156) ⌝ }
     ensures { λ r. ⌜ (r ≡ former * z / (scale * divisor)) × (r ≤ former) ⌝ }
 {
-    former * z / (1000000000 * divisor)
+    former * z / (SCALE * divisor)
 }
 
 // Seven terms, signs alternating, first plus; the divisors are those of the second to the seventh.
@@ -49,5 +50,5 @@ pub(crate) fn cosine(q: u64) -> u64
     requires { ⌜ q ≤ 1047197551 ⌝ }
     ensures { λ r. ⌜ (pos r ≡ cosineOf q) × (451688645 ≤ r) × (r ≤ 1000000000) ⌝ }
 {
-    series(1000000000, square(q), 2, 12, 30, 56, 90, 132)
+    series(SCALE, square(q), 2, 12, 30, 56, 90, 132)
 }
