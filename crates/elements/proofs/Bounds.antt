@@ -100,8 +100,8 @@ module _ (R L : ℕ) (R-most : R ≤ 5000000) (L-most : L ≤ 500000) (L-to-R : 
   t-most : spiralAngle R L ≤ greatestSpiralAngle
   t-most = spiral-angle-most R L L-to-R
 
-  length : Between (pos L) 0 500000
-  length = natural L (omega arith) L-most
+  spiral : Between (pos L) 0 500000
+  spiral = natural L (omega arith) L-most
 
   sine-t : Between (sineOf (spiralAngle R L)) 0 (spiralAngle R L)
   sine-t = sine-between (spiralAngle R L) (omega (arith, t-most))
@@ -119,11 +119,11 @@ module _ (R L : ℕ) (R-most : R ≤ 5000000) (L-most : L ≤ 500000) (L-to-R : 
 
   pub X-between : Between (spiralX R L) 0 500000000
   unfolding spiralX
-  X-between = rounded-between 1000000 500000000 (product-between length x-t) (omega arith)
+  X-between = rounded-between 1000000 500000000 (product-between spiral x-t) (omega arith)
 
   pub Y-between : Between (spiralY R L) 0 83333333
   unfolding spiralY
-  Y-between = rounded-between 1000000 83333333 (product-between length y-t) (omega arith)
+  Y-between = rounded-between 1000000 83333333 (product-between spiral y-t) (omega arith)
 
   -- k is not below zero.
   pub k-between : Between (centreOf R L) 0 500000000

@@ -37,12 +37,12 @@ fn round(product: u64, divisor: u64) -> u64
     product / divisor
 }
 
-// A length times a ratio, in µm.
-fn micrometres(length: u64, ratio: u64) -> u64
-    requires { ⌜ (length ≤ 5000000) × (ratio ≤ 2094395102) ⌝ }
-    ensures { λ r. ⌜ pos r ≡ rounded (pos (length * ratio)) 1000000 ⌝ }
+// A length in mm times a ratio, in µm.
+fn micrometres(mm: u64, ratio: u64) -> u64
+    requires { ⌜ (mm ≤ 5000000) × (ratio ≤ 2094395102) ⌝ }
+    ensures { λ r. ⌜ pos r ≡ rounded (pos (mm * ratio)) 1000000 ⌝ }
 {
-    round(length * ratio, 1000000)
+    round(mm * ratio, 1000000)
 }
 
 // The product of two angles of half a radian or less, which is half of the second at the most.
@@ -94,13 +94,13 @@ fn unit_y(t: u64) -> u64
     t / 3 - t3 / 42
 }
 
-// X and k, or Y and p: a length times a ratio, and that less a radius times its part.
-fn offset_of(length: u64, ratio: u64, radius: u64, part: u64) -> Offset
-    requires { ⌜ (length ≤ 500000) × (ratio ≤ 1000000000) × (radius ≤ 5000000) × (part ≤ 1000000000) ⌝ }
-    requires { ⌜ radius * part ≤ length * ratio ⌝ }
-    ensures { λ o. ⌜ OffsetOf length ratio radius part o ⌝ }
+// X and k, or Y and p: the spiral length times a ratio, and that less the radius times its part.
+fn offset_of(spiral: u64, ratio: u64, radius: u64, part: u64) -> Offset
+    requires { ⌜ (spiral ≤ 500000) × (ratio ≤ 1000000000) × (radius ≤ 5000000) × (part ≤ 1000000000) ⌝ }
+    requires { ⌜ radius * part ≤ spiral * ratio ⌝ }
+    ensures { λ o. ⌜ OffsetOf spiral ratio radius part o ⌝ }
 {
-    let end = micrometres(length, ratio);
+    let end = micrometres(spiral, ratio);
     let taken = micrometres(radius, part);
     Offset {
         end,
