@@ -1,24 +1,16 @@
 -- The ranges of everything that the working rule computes for a curve in range: each quotient is of a number not below zero, by one above
--- zero; k and p are not below zero; and an arc that is answered is 1,000 µm at least. Assumes nothing.
+-- zero; and k and p are not below zero. Assumes nothing.
 use mathlib.Core.Path.{_≡_, sym, _∙_, ap}
-use mathlib.Core.Bool.{true}
-use Prim.Native.Nat.{ℕ, _+_, _-_, _*_, _/_, _≤_}
+use Prim.Native.Nat.{ℕ, _-_, _*_, _/_, _≤_}
 use native.Mathlib.Nat.{mul-add, add-mul, mul-assoc, mul-comm, mul-left-comm, mul-zero, mul-le-mul, mul-le-mul-left, mul-le-mul-right, mul-div-le, div-le-of-le-mul}
 use native.Mathlib.Decide.{decLe}
 use native.Mathlib.Omega.{arith}
 use lib.IntN.{ℤ, pos, _-ℤ_}
-use lib.Signed.{leZ}
-use borrow.Author.Tests.{leb-true}
 use Rattle.numbers.specs.Whole.{Between}
-use Rattle.numbers.proofs.Differences.{minus-le, reaches}
+use Rattle.numbers.proofs.Differences.{minus-le}
 use Rattle.numbers.proofs.Ranges.{at-least, at-most, natural, widen, sum-between, difference-between, product-between, quotient-between}
-use Rattle.refusals.specs.Outcomes.{passed}
-use Rattle.line.specs.Checks.{curveOutcome}
 use Rattle.line.specs.Ranges.{CurveInRange}
-use Rattle.refusals.proofs.Joining.{passed-left, passed-right, need-holds}
-use Rattle.line.proofs.InRange.{curve-in-range}
-use Rattle.elements.specs.WorkingRule.{scale, rounded, fullAngle, halfAngle, spiralAngle, sineOf, cosineOf, unitX, unitY, spiralX, spiralY, centreOf, shiftOf, arcOf, tanOf, tangentOf}
-use Rattle.elements.specs.Answer.{arcOutcome, elementOutcome}
+use Rattle.elements.specs.WorkingRule.{scale, rounded, fullAngle, halfAngle, spiralAngle, sineOf, cosineOf, unitX, unitY, spiralX, spiralY, centreOf, shiftOf, tanOf, tangentOf}
 use Rattle.elements.proofs.Rounding.{rounded-between, rest-between}
 use Rattle.elements.proofs.SineAndCosine.{greatestAngle, sine-between, cosine-between, cosine-above}
 use Rattle.elements.proofs.UnitSpiral.{greatestSpiralAngle, unitX-between, unitY-between, unitY-quarter}
@@ -162,7 +154,7 @@ module _ (A : ℕ) (A-most : A ≤ 432000) where
       2318405749
       (omega arith)
 
-  turn-between : (R : ℕ) → R ≤ 5000000 → Between (rounded (pos (R * fullAngle A)) 1000000) 0 10471975510
+  pub turn-between : (R : ℕ) → R ≤ 5000000 → Between (rounded (pos (R * fullAngle A)) 1000000) 0 10471975510
   turn-between R h =
       rounded-between 1000000 10471975510
       (product-between
@@ -223,16 +215,3 @@ bounds A R L ok =
           (tan-between A Am))
           (omega arith));
     }
-
--- D is 1,000 µm at least where the elements are answered.
-pub arc-answered : (A R L : ℕ) → elementOutcome A R L ≡ passed → Between (arcOf A R L) 1000 10471975510
-unfolding elementOutcome arcOutcome arcOf
-arc-answered A R L e =
-    let ok = curve-in-range A R L 0 (passed-left (curveOutcome A R L 0) _ e) in
-    let u = turn-between A (ok .A-most) R (ok .R-most) in
-    let reached : leZ (pos 1000) (arcOf A R L) ≡ true = need-holds _ 14 0 (passed-right (curveOutcome A R L 0) _ e) in
-    let far : 1000 * L + 1000 ≤ u .value =
-    leb-true (1000 * L + 1000) (u .value)
-    (sym (reaches (u .value) (1000 * L) 1000) ∙ ap (λ (z : ℤ). leZ (pos 1000) (z -ℤ pos (1000 * L))) (sym (u .same)) ∙ reached) in
-    rw (u .same, minus-le {a = u .value} {b = 1000 * L} (omega arith))
-    (natural (u .value - 1000 * L) (omega arith) (omega (arith, u .high)))

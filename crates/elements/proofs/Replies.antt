@@ -16,7 +16,8 @@ use Rattle.elements.specs.declared.Elements.{Elements}
 use Rattle.elements.specs.declared.ElementAnswer.the-variants.{Found, Refused}
 use Rattle.elements.specs.WorkingRule.{spiralX, spiralY, centreOf, shiftOf, arcOf, tangentOf}
 use Rattle.elements.specs.Answer.{Values, answered, declined, replyOf, replyTo, valuesBy, arcOutcome, elementOutcome, elementReply}
-use Rattle.elements.proofs.Bounds.{bounds, arc-answered}
+use Rattle.elements.proofs.Bounds.{bounds}
+use Rattle.elements.proofs.Arc.{arc-answered}
 
 -- Elements that are answered: every check passed, each number is the rule's, and it has a range.
 pub record FoundElements (A R L : ℕ) (e : Elements) : Type 0 where

@@ -1,6 +1,6 @@
 -- What the private steps of the element call promise.
 use mathlib.Core.Path.{_≡_}
-use Prim.Native.Nat.{ℕ, _*_, _≤_}
+use Prim.Native.Nat.{ℕ, _*_}
 use lib.IntN.{pos, _-ℤ_}
 use Rattle.elements.specs.declared.rule.Offset.{Offset}
 use Rattle.elements.specs.declared.rule.Spirals.{Spirals}
@@ -11,11 +11,9 @@ pub record OffsetOf (spiral ratio radius part : ℕ) (o : Offset) : Type 0 where
   pub end : pos (o .end) ≡ rounded (pos (spiral * ratio)) 1000000
   pub rest : pos (o .rest) ≡ rounded (pos (spiral * ratio)) 1000000 -ℤ rounded (pos (radius * part)) 1000000
 
--- What the radius and the spiral give alone: X, Y, k and p, with the greatest values of k and p.
+-- What the radius and the spiral give alone: X, Y, k and p.
 pub record SpiralsOf (R L : ℕ) (s : Spirals) : Type 0 where
   pub X : pos (s .x) ≡ spiralX R L
   pub Y : pos (s .y) ≡ spiralY R L
   pub k : pos (s .centre) ≡ centreOf R L
   pub p : pos (s .shift) ≡ shiftOf R L
-  pub k-most : s .centre ≤ 500000000
-  pub p-most : s .shift ≤ 83333333

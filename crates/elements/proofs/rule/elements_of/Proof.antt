@@ -2,7 +2,9 @@
 use Prim.Native.Nat.{_+_, _*_}
 use native.Mathlib.Nat.{mul-le-mul}
 use native.Mathlib.Omega.{arith}
-use Rattle.elements.proofs.Computed.{beyond-most, computed-TT, computed-values}
+use Rattle.numbers.proofs.Ranges.{at-most}
+use Rattle.elements.proofs.Bounds.{bounds}
+use Rattle.elements.proofs.Computed.{computed-TT, computed-values}
 use borrow.Author.Needs.{needs}
 use Rattle.elements.proofs.rule.elements_of.Statement.{statement}
 use Rattle.elements.proofs.rule.elements_of.Tie as tie
@@ -14,27 +16,32 @@ mul-round : tie.Need-mul-round
 mul-round c = search needs
 
 add-round : tie.Need-add-round
-add-round c = search needs
+add-round c = omega (arith, at-most (c .before .spirals-of .ensures .p) (bounds _ _ _ (c .before .before .pre .0) .p))
 
 tan-half-requires : tie.Need-tan-half-requires
 tan-half-requires c κs = search needs
 
 mul-round-2 : tie.Need-mul-round-2
 mul-round-2 c =
-    let p = c .before .before .spirals-of .ensures .p-most in
-    let R = c .before .before .before .pre .0 .R-most in
+    let start = c .before .before .before in
+    let s = c .before .before .spirals-of in
+    let p = at-most (s .ensures .p) (bounds _ _ _ (start .pre .0) .p) in
+    let R = start .pre .0 .R-most in
     omega
-    (arith, mul-le-mul {n₁ = 1000 * c .before .before .before .args .radius + c .before .before .spirals-of .result .shift} {n₂ = 5083333333} (omega arith) (c .tan-half .ensures .1))
+    (arith, mul-le-mul {n₁ = 1000 * start .args .radius + s .result .shift} {n₂ = 5083333333} (omega arith) (c .tan-half .ensures .1))
 
 round-requires : tie.Need-round-requires
 round-requires c κs = search needs
 
 add-t7 : tie.Need-add-t7
 add-t7 c =
-    let s = c .before .before .before .before .spirals-of in
-    let ok = c .before .before .before .before .before .pre .0 in
+    let start = c .before .before .before .before .before in
+    let s = c .before .before .before .before .spirals-of .ensures in
+    let A = start .args .deflection in
+    let R = start .args .radius in
+    let L = start .args .spiral in
     omega
-    (arith, s .ensures .k-most, beyond-most _ _ _ _ (ok .R-most) (s .ensures .p-most) (c .before .before .tan-half .ensures .1) (c .before .round .ensures))
+    (arith, at-most (computed-TT A R L (s .k) (s .p) (c .before .before .tan-half .ensures .0) (c .before .round .ensures)) (bounds A R L (start .pre .0) .TT))
 
 returns : tie.Need-returns
 returns c =

@@ -3,7 +3,7 @@ use mathlib.Core.Path.{sym, _∙_, ap}
 use native.Mathlib.Omega.{arith}
 use Rattle.refusals.specs.Outcomes.{Outcome}
 use Rattle.elements.specs.Answer.{replyTo, valuesBy}
-use Rattle.elements.proofs.Computed.{computed-D, short-arc, long-arc}
+use Rattle.elements.proofs.Arc.{computed-D, short-arc, long-arc}
 use borrow.Author.Needs.{needs}
 use Rattle.elements.proofs.rule.elements_or_short.Statement.{statement}
 use Rattle.elements.proofs.rule.elements_or_short.Tie as tie

@@ -1,8 +1,7 @@
 -- `spirals_of`: the parts that are taken away are no greater, so k and p are natural numbers. Assumes nothing.
-use Rattle.numbers.proofs.Ranges.{at-most}
 use mathlib.Core.Path.{_∙_, ap}
 use Rattle.elements.specs.WorkingRule.{sineOf, unitX, unitY, spiralX, spiralY, centreOf, shiftOf}
-use Rattle.elements.proofs.Bounds.{sine-part, cosine-part, k-between, p-between}
+use Rattle.elements.proofs.Bounds.{sine-part, cosine-part}
 use Rattle.elements.proofs.Computed.{computed-end, computed-rest, computed-one-less}
 use borrow.Author.Needs.{needs}
 use Rattle.elements.proofs.rule.spirals_of.Statement.{statement}
@@ -53,15 +52,11 @@ returns c =
     let t = angle .spiral-angle .ensures .0 in
     let x = first .before .before .unit-x .ensures .0 ∙ ap unitX t in
     let y = c .before .before .unit-y .ensures .0 ∙ ap unitY t in
-    let k = computed-rest L R x (first .before .sine .ensures .0 ∙ ap sineOf t) (first .offset-of .ensures .rest) in
-    let p = computed-rest L R y (computed-one-less t (c .before .cosine .ensures .0) (c .before .cosine .ensures .2)) (c .offset-of2 .ensures .rest) in
     record {
       X = computed-end L x (first .offset-of .ensures .end);
       Y = computed-end L y (c .offset-of2 .ensures .end);
-      k = k;
-      p = p;
-      k-most = at-most k (k-between R L (start .pre .1) (start .pre .2) (start .pre .3));
-      p-most = at-most p (p-between R L (start .pre .1) (start .pre .2) (start .pre .3));
+      k = computed-rest L R x (first .before .sine .ensures .0 ∙ ap sineOf t) (first .offset-of .ensures .rest);
+      p = computed-rest L R y (computed-one-less t (c .before .cosine .ensures .0) (c .before .cosine .ensures .2)) (c .offset-of2 .ensures .rest);
     }
 
 pub spirals-of-spec : {M : Type 1} → statement M
