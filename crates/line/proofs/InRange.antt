@@ -1,26 +1,19 @@
 -- A check passes exactly where the fields are in range. Assumes nothing.
-use mathlib.Core.Path.{_≡_, refl}
+use mathlib.Core.Path.{_≡_}
 use mathlib.Core.Logic.{_⊎_, inl, inr, ⊎-elim}
-use mathlib.Core.Bool.{Bool, true, false, _&&_}
+use mathlib.Core.Bool.{true, _&&_}
 use Prim.Native.Nat.{ℕ, zero, suc, _%_, _≤_}
 use native.Mathlib.Decide.{decLe}
 use native.Mathlib.Omega.{arith}
 use lib.Arith.{le-zero}
 use lib.Dec.{leb, eqb}
 use borrow.Author.Tests.{leb-true, eqb-true, le-leb, eq-eqb}
+use Rattle.numbers.proofs.Tests.{both-left, both-right}
 use Rattle.line.specs.declared.Line.{Line}
 use Rattle.refusals.specs.Outcomes.{passed, need}
 use Rattle.line.specs.Checks.{within, greatestStart, startOutcome, headOutcome, distanceOutcome, curveOutcome, distanceAt, curveAt, bodyOutcome, lineOutcome}
 use Rattle.line.specs.Ranges.{CurveInRange, LineInRange}
 use Rattle.refusals.proofs.Joining.{passed-left, passed-right, need-holds}
-
-both-left : (a b : Bool) → a && b ≡ true → a ≡ true
-both-left true b e = refl
-both-left false b e = cc
-
-both-right : (a b : Bool) → a && b ≡ true → b ≡ true
-both-right true b e = e
-both-right false b e = cc
 
 within-least : (least most x : ℕ) → within least most x ≡ true → least ≤ x
 within-least least most x e = leb-true least x (both-left _ (leb x most) e)

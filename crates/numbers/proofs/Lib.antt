@@ -1,3 +1,5 @@
--- Laws on whole numbers.
+-- Laws on numbers.
 pub mod Differences
 pub mod Ranges
+pub mod Tests
+pub mod Tables

@@ -1,2 +1,3 @@
 -- Laws of outcomes.
 pub mod Joining
+pub mod InTurn

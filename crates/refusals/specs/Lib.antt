@@ -1,3 +1,4 @@
 -- What the contracts of `refusals` cite.
 pub mod Table
 pub mod Outcomes
+pub mod Filling

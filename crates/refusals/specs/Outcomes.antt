@@ -1,6 +1,6 @@
 -- What a check says in document 01's numbers, and how checks join: the first refusal counts.
 use mathlib.Core.Bool.{Bool, true, false}
-use Prim.Native.Nat.{ℕ}
+use Prim.Native.Nat.{ℕ, zero, suc}
 use Rattle.refusals.specs.declared.Verdict.{Verdict}
 use Rattle.refusals.specs.declared.Verdict.the-variants.{Pass, Refused}
 use Rattle.refusals.specs.Table.{numberOf, placeOf}
@@ -25,3 +25,8 @@ infixr 20 _▹_
 abbrev pub _▹_ : Outcome → Outcome → Outcome
 passed ▹ b = b
 (refused number place) ▹ b = refused number place
+
+-- The first refusal of the first i of many checks, one after the other.
+unfoldable pub firstOf : (ℕ → Outcome) → ℕ → Outcome
+firstOf check zero = passed
+firstOf check (suc i) = firstOf check i ▹ check i

@@ -39,6 +39,12 @@ pub enum Refusal {
     SmallBuffer,
 }
 
+// What a call that fills a caller's buffer answers: how many entries it wrote at the buffer's front, or why it wrote none.
+pub enum FillAnswer {
+    Count(usize),
+    Refused(Refusal),
+}
+
 // What a check says.
 pub enum Verdict {
     Pass,

@@ -1,0 +1,5 @@
+-- Laws of the calculator.
+pub mod TableRule
+pub mod LeastSpiral
+pub mod Fronts
+pub mod CurveSteps

@@ -1,0 +1,48 @@
+-- What the private steps of the calculator promise.
+use mathlib.Core.Path.{_≡_}
+use mathlib.Core.List.{List}
+use Prim.Native.Nat.{ℕ, suc, _<_, _≤_}
+use lib.IntN.{ℤ, pos}
+use lib.ListN.{length, getD}
+use Rattle.refusals.specs.declared.Verdict.the-variants.{Pass}
+use Rattle.refusals.specs.Outcomes.{outcomeOf, firstOf}
+use Rattle.line.specs.declared.Line.{Line}
+use Rattle.calculator.specs.declared.lengths.CurveLengths.{CurveLengths}
+use Rattle.calculator.specs.declared.lengths.Straights.{Straights}
+use Rattle.calculator.specs.declared.lengths.Lengths.{Lengths}
+use Rattle.calculator.specs.Stations.{arcAt, tangentAt, straightAt}
+use Rattle.calculator.specs.Answer.{curveCheck, straightCheck, alignmentOutcome}
+
+-- The first i entries of an array are what f gives, the others 0, and none is above `most`.
+pub record Front (f : ℕ → ℤ) (most size i : ℕ) (xs : List ℕ) : Type 0 where
+  pub sized : length xs ≡ size
+  pub used : (k : ℕ) → k < i → pos (getD xs k 0) ≡ f k
+  pub unused : (k : ℕ) → i ≤ k → getD xs k 0 ≡ 0
+  pub small : (k : ℕ) → getD xs k 0 ≤ most
+
+-- Tangents, arcs and straights of the first i entries of a line, in µm.
+abbrev pub TangentsTo : Line → ℕ → List ℕ → Type 0
+TangentsTo line = Front (tangentAt line) 12300000000 65
+
+abbrev pub ArcsTo : Line → ℕ → List ℕ → Type 0
+ArcsTo line = Front (arcAt line) 10471975510 64
+
+abbrev pub StraightsTo : Line → ℕ → List ℕ → Type 0
+StraightsTo line = Front (straightAt line) 20000000000 65
+
+-- 12 to 14, and where they pass the tangents and the arcs.
+pub record CurvesOf (line : Line) (c : CurveLengths) : Type 0 where
+  pub outcome : outcomeOf (c .verdict) ≡ firstOf (curveCheck line) (line .count)
+  pub tangents : c .verdict ≡ Pass → TangentsTo line (line .count) (c .tangents)
+  pub arcs : c .verdict ≡ Pass → ArcsTo line (line .count) (c .arcs)
+
+-- 15, and where it passes the straights.
+pub record StraightsOf (line : Line) (s : Straights) : Type 0 where
+  pub outcome : outcomeOf (s .verdict) ≡ firstOf (straightCheck line) (suc (line .count))
+  pub straights : s .verdict ≡ Pass → StraightsTo line (suc (line .count)) (s .straights)
+
+-- 3 to 15, and where they pass the straights and the arcs.
+pub record LengthsOf (line : Line) (l : Lengths) : Type 0 where
+  pub outcome : outcomeOf (l .verdict) ≡ alignmentOutcome line
+  pub straights : l .verdict ≡ Pass → StraightsTo line (suc (line .count)) (l .straights)
+  pub arcs : l .verdict ≡ Pass → ArcsTo line (line .count) (l .arcs)

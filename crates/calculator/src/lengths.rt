@@ -1,0 +1,61 @@
+// The lengths of a line's straights and arcs, in µm, with the calculator's checks 3 to 15.
+ghost use mathlib.Core.Path.{_≡_};
+ghost use Rattle.line.specs.Ranges.{LineInRange};
+ghost use Rattle.calculator.specs.Lengths.{TangentsTo, CurvesOf, StraightsOf, LengthsOf};
+use crate::tables::check_least;
+use elements::ElementAnswer;
+use elements::curve_elements;
+use line::Line;
+use line::check_line;
+use refusals::Refusal;
+use refusals::Verdict;
+
+// The tangents and the arcs of a line's curves; beside a refusal they mean nothing.
+struct CurveLengths {
+    verdict: Verdict,
+    // One entry more than there can be curves: no tangent follows the last distance.
+    tangents: [u64; 65],
+    arcs: [u64; 64],
+}
+
+// The straights of a line; beside a refusal they mean nothing.
+struct Straights {
+    verdict: Verdict,
+    straights: [u64; 65],
+}
+
+// The straights and the arcs of a line; beside a refusal they mean nothing.
+pub(crate) struct Lengths {
+    pub verdict: Verdict,
+    pub straights: [u64; 65],
+    pub arcs: [u64; 64],
+}
+
+// Refusals 12, 13 and 14, curve by curve, and the lengths of each curve, whose elements are computed once.
+fn curve_lengths(line: Line) -> CurveLengths
+    requires { ⌜ LineInRange line ⌝ }
+    ensures { λ c. ⌜ CurvesOf line c ⌝ }
+{
+    let n = line.count;
+    let speed = line.speed as u64;
+    let crossfall = line.crossfall as u64;
+    let mut tangents: [u64; 65] = [0; 65];
+    let mut arcs: [u64; 64] = [0; 64];
+    let mut i = 0;
+    while i < n {
+        let curve = line.curves[i];
+        let place = (i + 1) as u16;
+        let least = check_least(speed, crossfall, curve.radius as u64, curve.spiral as u64, place);
+        let Verdict::Pass = least else {
+            return CurveLengths { verdict: least, tangents, arcs };
+        };
+        let answer = curve_elements(curve.deflection, curve.radius, curve.spiral);
+        let ElementAnswer::Found(e) = answer else {
+            return CurveLengths { verdict: Verdict::Refused(Refusal::ShortArc(place)), tangents, arcs };
+        };
+        tangents[i] = e.tangent;
+        arcs[i] = e.arc;
+        i += 1;
+    }
+    CurveLengths { verdict: Verdict::Pass, tangents, arcs }
+}
