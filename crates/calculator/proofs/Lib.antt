@@ -3,3 +3,4 @@ pub mod TableRule
 pub mod LeastSpiral
 pub mod Fronts
 pub mod CurveSteps
+pub mod StraightSteps

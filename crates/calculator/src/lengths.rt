@@ -59,3 +59,27 @@ fn curve_lengths(line: Line) -> CurveLengths
     }
     CurveLengths { verdict: Verdict::Pass, tangents, arcs }
 }
+
+// Refusal 15, by ascending distance, and the straights: each distance less the tangents of the curves at its ends.
+fn straights_between(line: Line, tangents: [u64; 65]) -> Straights
+    requires { ⌜ LineInRange line ⌝ }
+    requires { ⌜ TangentsTo line (line .count) tangents ⌝ }
+    ensures { λ s. ⌜ StraightsOf line s ⌝ }
+{
+    let n = line.count;
+    let mut straights: [u64; 65] = [0; 65];
+    let mut before: u64 = 0;
+    let mut i = 0;
+    while i <= n {
+        let after = tangents[i];
+        let distance = 1000 * (line.distances[i] as u64);
+        let ends = before + after;
+        if distance < ends + 1000 {
+            return Straights { verdict: Verdict::Refused(Refusal::ShortStraight(i as u16)), straights };
+        }
+        straights[i] = distance - ends;
+        before = after;
+        i += 1;
+    }
+    Straights { verdict: Verdict::Pass, straights }
+}

@@ -4,7 +4,7 @@ use mathlib.Core.Bool.{Bool, true, false}
 use Prim.Native.Nat.{ℕ, zero, suc, _+_, _-_, _≤_, _<_}
 use native.Mathlib.Omega.{arith}
 use lib.Dec.{leb}
-use lib.IntN.{pos, negsuc, _-ℤ_}
+use lib.IntN.{ℤ, pos, negsuc, negℤ, _+ℤ_, _-ℤ_, +ℤ-assoc, negℤ-+ℤ}
 use lib.Signed.{leZ}
 use borrow.Author.Tests.{le-leb, lt-leb, le-ltb, lt-ltb, leb-true, leb-false}
 
@@ -17,6 +17,11 @@ minus-le {a} {b = suc b} h = rw (le-ltb a (suc b) h)
 pub minus-lt : {a b : ℕ} → a < b → pos a -ℤ pos b ≡ negsuc (b - suc a)
 minus-lt {a} {b = zero} h = absurd (omega arith)
 minus-lt {a} {b = suc b} h = rw (lt-ltb a (suc b) h)
+
+-- Less two numbers, one after the other, is less their sum.
+pub minus-minus : (a b c : ℕ) → pos a -ℤ pos b -ℤ pos c ≡ pos a -ℤ pos (b + c)
+minus-minus a b c =
+    +ℤ-assoc (pos a) (negℤ (pos b)) (negℤ (pos c)) ∙ ap (λ (z : ℤ). pos a +ℤ z) (sym (negℤ-+ℤ (pos b) (pos c)))
 
 -- A test on a difference is one on a sum.
 pub reaches : (a b k : ℕ) → leZ (pos k) (pos a -ℤ pos b) ≡ leb (b + k) a
