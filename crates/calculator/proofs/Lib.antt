@@ -4,3 +4,4 @@ pub mod LeastSpiral
 pub mod Fronts
 pub mod CurveSteps
 pub mod StraightSteps
+pub mod RowSteps

@@ -40,9 +40,13 @@ alignmentOutcome line =
 abbrev pub stationCount : Line → ℕ
 stationCount line = 4 * line .count + 1
 
--- "then 16": a row of `room` numbers is too small
+-- 16: a row of `room` numbers is "too few"
+unfoldable pub roomCheck : Line → ℕ → Outcome
+roomCheck line room = need (leb (stationCount line) room) 16 0
+
+-- "then 16"
 unfoldable pub stationsOutcome : Line → ℕ → Outcome
-stationsOutcome line room = alignmentOutcome line ▹ need (leb (stationCount line) room) 16 0
+stationsOutcome line room = alignmentOutcome line ▹ roomCheck line room
 
 -- What is answered for a line and a row of `room` numbers: "returns that count", or the first refusal.
 unfoldable pub stationsAnswer : Line → ℕ → FillReply

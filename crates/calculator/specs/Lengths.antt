@@ -1,7 +1,7 @@
 -- What the private steps of the calculator promise.
 use mathlib.Core.Path.{_≡_}
-use mathlib.Core.List.{List}
-use Prim.Native.Nat.{ℕ, suc, _<_, _≤_}
+use mathlib.Core.List.{List, [], _∷_}
+use Prim.Native.Nat.{ℕ, suc, _+_, _<_, _≤_}
 use lib.IntN.{ℤ, pos}
 use lib.ListN.{length, getD}
 use Rattle.refusals.specs.declared.Verdict.the-variants.{Pass}
@@ -46,3 +46,12 @@ pub record LengthsOf (line : Line) (l : Lengths) : Type 0 where
   pub outcome : outcomeOf (l .verdict) ≡ alignmentOutcome line
   pub straights : l .verdict ≡ Pass → StraightsTo line (suc (line .count)) (l .straights)
   pub arcs : l .verdict ≡ Pass → ArcsTo line (line .count) (l .arcs)
+
+-- The four stations of a curve after the station `former`.
+abbrev pub fourFrom : (former straight spiral arc : ℕ) → List ℕ
+fourFrom former straight spiral arc =
+    (former + straight)
+    ∷ (former + straight + spiral)
+    ∷ (former + straight + spiral + arc)
+    ∷ (former + straight + spiral + arc + spiral)
+    ∷ []

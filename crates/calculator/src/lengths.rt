@@ -83,3 +83,31 @@ fn straights_between(line: Line, tangents: [u64; 65]) -> Straights
     }
     Straights { verdict: Verdict::Pass, straights }
 }
+
+// A refusal, with no lengths.
+fn no_lengths(verdict: Verdict) -> Lengths
+    ensures { λ l. ⌜ l .verdict ≡ verdict ⌝ }
+{
+    Lengths { verdict, straights: [0; 65], arcs: [0; 64] }
+}
+
+// The calculator's checks 3 to 15, and the lengths of a line that passes them.
+pub(crate) fn lengths_of(line: Line) -> Lengths
+    ensures { λ l. ⌜ LengthsOf line l ⌝ }
+{
+    let fields = check_line(line);
+    let Verdict::Pass = fields else {
+        return no_lengths(fields);
+    };
+    let curves = curve_lengths(line);
+    let designs = curves.verdict;
+    let Verdict::Pass = designs else {
+        return no_lengths(designs);
+    };
+    let tangents = curves.tangents;
+    let between = straights_between(line, tangents);
+    let verdict = between.verdict;
+    let straights = between.straights;
+    let arcs = curves.arcs;
+    Lengths { verdict, straights, arcs }
+}
