@@ -1,7 +1,7 @@
 -- One curve more: what its checks and its elements say of the line's. Assumes nothing.
 use mathlib.Core.Path.{_≡_, refl, sym, _∙_, ap}
 use mathlib.Core.Bool.{Bool}
-use Prim.Native.Nat.{ℕ, suc, _+_, _<_}
+use Prim.Native.Nat.{ℕ, _+_, _<_}
 use native.Mathlib.Numerals.{add-one}
 use lib.IntN.{pos}
 use lib.Signed.{leZ}
@@ -19,9 +19,8 @@ use Rattle.elements.specs.declared.Elements.{Elements}
 use Rattle.elements.specs.declared.ElementAnswer.the-variants as ElementAnswer
 use Rattle.elements.specs.WorkingRule.{arcOf}
 use Rattle.elements.specs.Answer.{replyOf, arcOutcome, elementOutcome, elementReply}
-use Rattle.elements.proofs.Replies.{FoundElements, found-elements, refused-arc}
+use Rattle.elements.proofs.Replies.{FoundElements, refused-arc}
 use Rattle.calculator.specs.RoadTables.{radiusServes, spiralServes}
-use Rattle.calculator.specs.Stations.{arcAt, tangentAt}
 use Rattle.calculator.specs.Answer.{designOutcome, curveCheck}
 
 -- 12 and 13 of the curve at entry i.

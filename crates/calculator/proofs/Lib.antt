@@ -5,3 +5,4 @@ pub mod Fronts
 pub mod CurveSteps
 pub mod StraightSteps
 pub mod RowSteps
+pub mod WaysOut

@@ -1,14 +1,14 @@
 -- The row of stations, curve by curve: what is stored, and that it fits 64 bits. Assumes nothing.
-use mathlib.Core.Path.{_≡_, refl, sym, _∙_, ap}
+use mathlib.Core.Path.{_≡_, sym, _∙_, ap}
 use mathlib.Core.List.{List, [], _∷_, _++_, map, map-append}
-use Prim.Native.Nat.{ℕ, zero, suc, _+_, _*_, _<_, _≤_}
+use Prim.Native.Nat.{ℕ, zero, suc, _+_, _*_, _≤_}
 use native.Mathlib.Numerals.{add-one, add-two, add-three}
 use native.Mathlib.Omega.{arith}
 use lib.IntN.{ℤ, pos, natAbs, _+ℤ_}
 use lib.ListN.{length, take, drop, getD, set, length-append}
 use lib.Seq.{sets-eq, set-at, take-at, drop-at, drop-cons, drop-drop, append-snoc}
 use Rattle.line.specs.declared.Line.{Line}
-use Rattle.calculator.specs.Stations.{spiralAt, arcAt, straightAt, pointsFrom, formerST, pointsAt, endOf, curveStations, stationsOf, stationRow}
+use Rattle.calculator.specs.Stations.{spiralAt, arcAt, straightAt, formerST, pointsAt, endOf, curveStations, stationsOf, stationRow}
 use Rattle.calculator.specs.Answer.{stationCount}
 use Rattle.calculator.specs.Lengths.{fourFrom}
 
@@ -21,7 +21,7 @@ four-stored xs k a b c d h = rw (add-one, add-two, add-three) (sets-eq (a ∷ b 
 abbrev pub numbersTo : Line → ℕ → List ℕ
 numbersTo line i = map natAbs (curveStations line i)
 
-numbers-length : (line : Line) (i : ℕ) → length (numbersTo line i) ≡ 4 * i
+pub numbers-length : (line : Line) (i : ℕ) → length (numbersTo line i) ≡ 4 * i
 unfolding curveStations
 numbers-length line zero = omega arith
 numbers-length line (suc i) =

@@ -6,7 +6,7 @@ use native.Mathlib.Numerals.{add-one}
 use native.Mathlib.Decide.{decLt}
 use native.Mathlib.Omega.{arith}
 use lib.Dec.{leb}
-use lib.IntN.{ℤ, pos, _-ℤ_}
+use lib.IntN.{pos, _-ℤ_}
 use lib.ListN.{getD}
 use lib.Signed.{leZ}
 use borrow.Author.Tests.{lt-ltb, le-ltb, lt-leb, le-leb}
@@ -14,7 +14,7 @@ use Rattle.numbers.proofs.Differences.{minus-le, minus-minus, reaches}
 use Rattle.refusals.specs.Outcomes.{passed, refused}
 use Rattle.line.specs.declared.Line.{Line}
 use Rattle.line.specs.Checks.{distanceAt}
-use Rattle.calculator.specs.Stations.{tangentAt, tangentBefore, tangentAfter, straightAt}
+use Rattle.calculator.specs.Stations.{tangentBefore, tangentAfter, straightAt}
 use Rattle.calculator.specs.Answer.{straightCheck}
 use Rattle.calculator.specs.Lengths.{TangentsTo}
 

@@ -45,19 +45,37 @@ fn curve_lengths(line: Line) -> CurveLengths
     while i < n {
         let curve = line.curves[i];
         let place = (i + 1) as u16;
-        let least = check_least(speed, crossfall, curve.radius as u64, curve.spiral as u64, place);
+        let least = check_least(
+            speed,
+            crossfall,
+            curve.radius as u64,
+            curve.spiral as u64,
+            place,
+        );
         let Verdict::Pass = least else {
-            return CurveLengths { verdict: least, tangents, arcs };
+            return CurveLengths {
+                verdict: least,
+                tangents,
+                arcs,
+            };
         };
         let answer = curve_elements(curve.deflection, curve.radius, curve.spiral);
         let ElementAnswer::Found(e) = answer else {
-            return CurveLengths { verdict: Verdict::Refused(Refusal::ShortArc(place)), tangents, arcs };
+            return CurveLengths {
+                verdict: Verdict::Refused(Refusal::ShortArc(place)),
+                tangents,
+                arcs,
+            };
         };
         tangents[i] = e.tangent;
         arcs[i] = e.arc;
         i += 1;
     }
-    CurveLengths { verdict: Verdict::Pass, tangents, arcs }
+    CurveLengths {
+        verdict: Verdict::Pass,
+        tangents,
+        arcs,
+    }
 }
 
 // Refusal 15, by ascending distance, and the straights: each distance less the tangents of the curves at its ends.
@@ -75,20 +93,30 @@ fn straights_between(line: Line, tangents: [u64; 65]) -> Straights
         let distance = 1000 * (line.distances[i] as u64);
         let ends = before + after;
         if distance < ends + 1000 {
-            return Straights { verdict: Verdict::Refused(Refusal::ShortStraight(i as u16)), straights };
+            return Straights {
+                verdict: Verdict::Refused(Refusal::ShortStraight(i as u16)),
+                straights,
+            };
         }
         straights[i] = distance - ends;
         before = after;
         i += 1;
     }
-    Straights { verdict: Verdict::Pass, straights }
+    Straights {
+        verdict: Verdict::Pass,
+        straights,
+    }
 }
 
 // A refusal, with no lengths.
 fn no_lengths(verdict: Verdict) -> Lengths
     ensures { λ l. ⌜ l .verdict ≡ verdict ⌝ }
 {
-    Lengths { verdict, straights: [0; 65], arcs: [0; 64] }
+    Lengths {
+        verdict,
+        straights: [0; 65],
+        arcs: [0; 64],
+    }
 }
 
 // The calculator's checks 3 to 15, and the lengths of a line that passes them.
@@ -109,5 +137,9 @@ pub(crate) fn lengths_of(line: Line) -> Lengths
     let verdict = between.verdict;
     let straights = between.straights;
     let arcs = curves.arcs;
-    Lengths { verdict, straights, arcs }
+    Lengths {
+        verdict,
+        straights,
+        arcs,
+    }
 }

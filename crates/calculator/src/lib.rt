@@ -2,3 +2,5 @@
 mod lengths;
 mod row;
 mod tables;
+
+pub use row::stations;

@@ -46,8 +46,50 @@ fn write_row(line: Line, straights: [u64; 65], arcs: [u64; 64], row: &mut [u64])
     let mut i = 0;
     while i < n {
         let spiral = line.curves[i].spiral;
-        station = store_curve(&mut *row, 4 * i, station, straights[i], 1000 * (spiral as u64), arcs[i]);
+        station = store_curve(
+            &mut *row,
+            4 * i,
+            station,
+            straights[i],
+            1000 * (spiral as u64),
+            arcs[i],
+        );
         i += 1;
     }
     row[4 * n] = station + straights[n];
+}
+
+// Refusal 16, or the row of a line whose lengths are known.
+fn fill(line: Line, straights: [u64; 65], arcs: [u64; 64], row: &mut [u64]) -> FillAnswer
+    requires { ⌜ LineInRange line ⌝ }
+    requires { ⌜ StraightsTo line (suc (line .count)) straights × ArcsTo line (line .count) arcs ⌝ }
+    ensures { λ a. ⌜ fillReplyOf a ≡ countAfter (roomCheck line (length (now (row .entry)))) (stationCount line) ⌝ }
+    ensures { λ _. ⌜ now (row .exit) ≡ bufferAfter (roomCheck line (length (now (row .entry)))) (stationRow line) (now (row .entry)) ⌝ }
+{
+    let count = 4 * line.count + 1;
+    if row.len() < count {
+        return FillAnswer::Refused(Refusal::SmallBuffer);
+    }
+    write_row(line, straights, arcs, &mut *row);
+    FillAnswer::Count(count)
+}
+
+// The stations of a line by document 01's working rule (after source document 002), in µm: TS, SC, CS and ST of each curve in
+// order, then the end, at the front of `row`. Answers how many there are, 4 × n + 1, or the first refusal in document 01's
+// order: 3 to 6, 8 to 11, then 12, 13, 14 curve by curve, then 15 by ascending distance, then 16; a refusal leaves `row` as
+// it was. Any line and any row are taken; unused entries and the sides of the curves change nothing.
+pub fn stations(line: Line, row: &mut [u64]) -> FillAnswer
+    ensures answer { λ a. ⌜ fillReplyOf a ≡ stationsAnswer line (length (now (row .entry))) ⌝ }
+    ensures memory { λ _. ⌜ now (row .exit) ≡ stationsRow line (now (row .entry)) ⌝ }
+{
+    let lengths = lengths_of(line);
+    let verdict = lengths.verdict;
+    match verdict {
+        Verdict::Refused(refusal) => FillAnswer::Refused(refusal),
+        Verdict::Pass => {
+            let straights = lengths.straights;
+            let arcs = lengths.arcs;
+            fill(line, straights, arcs, row)
+        }
+    }
 }

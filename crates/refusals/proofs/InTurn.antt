@@ -6,7 +6,7 @@ use native.Mathlib.Nat.{add-zero, add-suc}
 use native.Mathlib.Numerals.{add-one}
 use native.Mathlib.Decide.{decLt}
 use native.Mathlib.Omega.{arith}
-use Rattle.refusals.specs.Outcomes.{Outcome, passed, refused, _▹_, firstOf}
+use Rattle.refusals.specs.Outcomes.{Outcome, passed, refused, firstOf}
 use Rattle.refusals.proofs.Joining.{passed-left, passed-right, never, refused-by, join}
 
 module _ (check : ℕ → Outcome) where

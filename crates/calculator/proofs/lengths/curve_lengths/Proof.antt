@@ -1,9 +1,9 @@
 -- `curve_lengths`: the loop keeps that the first i curves pass, with their tangents and arcs. Assumes nothing.
 use mathlib.Core.Path.{_≡_, refl, sym, _∙_, ap, subst}
-use Prim.Native.Nat.{ℕ, _+_, _-_, _≤_}
+use Prim.Native.Nat.{ℕ, _-_, _≤_}
 use native.Mathlib.Omega.{arith}
 use borrow.Author.Needs.{needs}
-use Rattle.refusals.specs.Outcomes.{passed, outcomeOf, firstOf}
+use Rattle.refusals.specs.Outcomes.{passed, firstOf}
 use Rattle.refusals.proofs.Joining.{not-both}
 use Rattle.line.specs.Checks.{curveAt}
 use Rattle.elements.specs.Answer.{replyOf}
@@ -15,10 +15,6 @@ use Rattle.calculator.proofs.Fronts.{front-empty, front-more}
 use Rattle.calculator.proofs.CurveSteps.{least-refused, arc-refused, curve-passed}
 use Rattle.calculator.proofs.lengths.curve_lengths.Statement.{statement}
 use Rattle.calculator.proofs.lengths.curve_lengths.Tie as tie
-use Rattle.calculator.proofs.lengths.curve_lengths.Reads as reads
-use Rattle.calculator.proofs.lengths.curve_lengths.Lts as lts
-use Rattle.calculator.proofs.tables.check_least.Reads as check-least-reads
-use Rattle.elements.proofs.curve_elements.Reads as curve-elements-reads
 
 abbrev Inv-loop : tie.InvT-loop
 Inv-loop line n speed crossfall tangents₀ arcs₀ i₀ tangents arcs i =
@@ -27,44 +23,34 @@ Inv-loop line n speed crossfall tangents₀ arcs₀ i₀ tangents arcs i =
 abbrev μ-loop : tie.MeasureT-loop
 μ-loop line n speed crossfall tangents₀ arcs₀ i₀ tangents arcs i = n - i
 
--- src/lengths.rt:40:17
 cast-speed : tie.Need-cast-speed Inv-loop μ-loop
 cast-speed c = search needs
 
--- src/lengths.rt:41:21
 cast-crossfall : tie.Need-cast-crossfall Inv-loop μ-loop
 cast-crossfall c = search needs
 
--- src/lengths.rt:45:5
 loop-holds : tie.Need-loop-holds Inv-loop μ-loop
 unfolding firstOf
 loop-holds c = (search needs, refl, front-empty _ _ 65, front-empty _ _ 64)
 
--- src/lengths.rt:46:21
 mul-curve : tie.Need-mul-curve Inv-loop μ-loop
 mul-curve c = search needs
 
--- src/lengths.rt:46:21
 element-copy-out-curve : tie.Need-element-copy-out-curve Inv-loop μ-loop
 element-copy-out-curve c = search needs
 
--- src/lengths.rt:47:22
 add-place : tie.Need-add-place Inv-loop μ-loop
 add-place c = search needs
 
--- src/lengths.rt:47:21
 cast-place : tie.Need-cast-place Inv-loop μ-loop
 cast-place c = search needs
 
--- src/lengths.rt:48:51
 cast-check-least : tie.Need-cast-check-least Inv-loop μ-loop
 cast-check-least c = search needs
 
--- src/lengths.rt:48:72
 cast-check-least-2 : tie.Need-cast-check-least-2 Inv-loop μ-loop
 cast-check-least-2 c = search needs
 
--- src/lengths.rt:48:13
 check-least-requires : tie.Need-check-least-requires Inv-loop μ-loop
 check-least-requires c κs =
     let ok = c .before .before .before .before .before .pre in
@@ -74,11 +60,9 @@ check-least-requires c κs =
 enum-told : tie.Need-enum-told Inv-loop μ-loop
 enum-told c = search needs
 
--- src/lengths.rt:50:51
 enum-told-2 : tie.Need-enum-told-2 Inv-loop μ-loop
 enum-told-2 c = search needs
 
--- src/lengths.rt:50:13
 returns : tie.Need-returns Inv-loop μ-loop
 returns c =
     let start = c .before .before .before .before .before .before .before .before in
@@ -90,19 +74,15 @@ returns c =
       arcs = λ e. not-both told e;
     }
 
--- src/lengths.rt:52:13
 curve-elements-requires : tie.Need-curve-elements-requires Inv-loop μ-loop
 curve-elements-requires c κs = tt
 
--- src/lengths.rt:53:34
 enum-known-answer : tie.Need-enum-known-answer Inv-loop μ-loop
 enum-known-answer c = search needs
 
--- src/lengths.rt:54:61
 enum-told-3 : tie.Need-enum-told-3 Inv-loop μ-loop
 enum-told-3 c = search needs
 
--- src/lengths.rt:54:13
 returns-2 : tie.Need-returns-2 Inv-loop μ-loop
 returns-2 c =
     let start = c .before .before .before .before .before .before .before .before .before .before .before in
@@ -110,38 +90,31 @@ returns-2 c =
     let line = start .args .t1 in
     record {
       outcome =
-        arc-refused line (loop .i) _ (c .before .before .before .before .before .check-least .ensures) (loop .inv .1) (c .before .before .before .enum-told .given .1) (c .enum-told3 .given .0 .0) _ (c .before .before .before .before .before .before .before .before .before .loop-test .taken)
-        (start .pre .curve (loop .i) (c .before .before .before .before .before .before .before .before .before .loop-test .taken))
-        (ap replyOf (sym (c .enum-told3 .given .1)) ∙ c .before .before .curve-elements .ensures);
+          arc-refused line (loop .i) _ (c .before .before .before .before .before .check-least .ensures) (loop .inv .1) (c .before .before .before .enum-told .given .1) (c .enum-told3 .given .0 .0) _ (c .before .before .before .before .before .before .before .before .before .loop-test .taken)
+          (start .pre .curve (loop .i) (c .before .before .before .before .before .before .before .before .before .loop-test .taken))
+          (ap replyOf (sym (c .enum-told3 .given .1)) ∙ c .before .before .curve-elements .ensures);
       tangents = λ e. not-both refl e;
       arcs = λ e. not-both refl e;
     }
 
--- src/lengths.rt:56:9
 mul-tangents : tie.Need-mul-tangents Inv-loop μ-loop
 mul-tangents c = search needs
 
--- src/lengths.rt:56:9
 array-write-tangents : tie.Need-array-write-tangents Inv-loop μ-loop
 array-write-tangents c = search needs
 
--- src/lengths.rt:57:9
 mul-arcs : tie.Need-mul-arcs Inv-loop μ-loop
 mul-arcs c = search needs
 
--- src/lengths.rt:57:9
 array-write-arcs : tie.Need-array-write-arcs Inv-loop μ-loop
 array-write-arcs c = search needs
 
--- src/lengths.rt:58:9
 add-i : tie.Need-add-i Inv-loop μ-loop
 add-i c = search needs
 
--- src/lengths.rt:45:5
 loop-less : tie.Need-loop-less Inv-loop μ-loop
 loop-less c = search needs
 
--- src/lengths.rt:45:5
 loop-again : tie.Need-loop-again Inv-loop μ-loop
 unfolding tangentAt arcAt
 loop-again c =
@@ -149,15 +122,13 @@ loop-again c =
     let loop = c .before .before .before .before .before .before .before .before .before .before .before .loop in
     let line = start .args .t1 in
     let curve = curveAt line (loop .i) in
-    let found = found-elements (curve .deflection) (curve .radius) (curve .spiral) _ (ap replyOf (sym (c .before .answer .given .1)) ∙ c .before .before .before .curve-elements .ensures) in
-    (
+    let found = found-elements (curve .deflection) (curve .radius) (curve .spiral) _ (ap replyOf (sym (c .before .answer .given .1)) ∙ c .before .before .before .curve-elements .ensures) in (
       search needs,
       curve-passed line (loop .i) _ (c .before .before .before .before .before .before .check-least .ensures) (loop .inv .1) (c .before .before .before .before .enum-told .given .1) found,
       front-more (loop .i) _ (loop .inv .2) (search needs) (found .TT) (found .TT-most),
       front-more (loop .i) _ (loop .inv .3) (search needs) (found .D) (found .D-most),
     )
 
--- src/lengths.rt:35:1
 returns-3 : tie.Need-returns-3 Inv-loop μ-loop
 returns-3 c =
     let start = c .before .before in

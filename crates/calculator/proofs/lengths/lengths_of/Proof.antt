@@ -1,35 +1,25 @@
 -- `lengths_of`: the first refusal of three parts is the line's; where all pass, the lengths are there. Assumes nothing.
-use mathlib.Core.Path.{_≡_, sym, _∙_, ap}
-use Rattle.refusals.specs.Outcomes.{outcomeOf, _▹_, firstOf}
+use mathlib.Core.Path.{sym, _∙_, ap}
+use Rattle.refusals.specs.Outcomes.{outcomeOf}
 use Rattle.refusals.proofs.Joining.{refused-first, passed-first, not-both}
 use Rattle.line.proofs.InRange.{line-in-range}
 use Rattle.calculator.specs.Answer.{alignmentOutcome}
 use borrow.Author.Needs.{needs}
 use Rattle.calculator.proofs.lengths.lengths_of.Statement.{statement}
 use Rattle.calculator.proofs.lengths.lengths_of.Tie as tie
-use Rattle.calculator.proofs.lengths.lengths_of.Reads as reads
-use Rattle.calculator.proofs.lengths.lengths_of.Lts as lts
-use Rattle.calculator.proofs.lengths.curve_lengths.Reads as curve-lengths-reads
-use Rattle.calculator.proofs.lengths.no_lengths.Reads as no-lengths-reads
-use Rattle.calculator.proofs.lengths.straights_between.Reads as straights-between-reads
-use Rattle.line.proofs.check_line.Reads as check-line-reads
 
--- src/lengths.rt:98:9
 check-line-requires : tie.Need-check-line-requires
 check-line-requires c κs = tt
 
 enum-told : tie.Need-enum-told
 enum-told c = search needs
 
--- src/lengths.rt:100:9
 enum-told-2 : tie.Need-enum-told-2
 enum-told-2 c = search needs
 
--- src/lengths.rt:100:9
 no-lengths-requires : tie.Need-no-lengths-requires
 no-lengths-requires c κs = tt
 
--- src/lengths.rt:100:9
 returns : tie.Need-returns
 unfolding alignmentOutcome
 returns c =
@@ -42,7 +32,6 @@ returns c =
       arcs = λ e. not-both told (sym same ∙ e);
     }
 
--- src/lengths.rt:102:9
 curve-lengths-requires : tie.Need-curve-lengths-requires
 curve-lengths-requires c κs =
     line-in-range _ (sym (c .before .before .check-line .ensures) ∙ ap outcomeOf (c .enum-told .given .1))
@@ -50,15 +39,12 @@ curve-lengths-requires c κs =
 enum-told-3 : tie.Need-enum-told-3
 enum-told-3 c = search needs
 
--- src/lengths.rt:105:9
 enum-told-4 : tie.Need-enum-told-4
 enum-told-4 c = search needs
 
--- src/lengths.rt:105:9
 no-lengths-requires-2 : tie.Need-no-lengths-requires-2
 no-lengths-requires-2 c κs = tt
 
--- src/lengths.rt:105:9
 returns-2 : tie.Need-returns-2
 unfolding alignmentOutcome
 returns-2 c =
@@ -68,21 +54,19 @@ returns-2 c =
     let same = c .no-lengths2 .ensures in
     record {
       outcome =
-        ap outcomeOf same
-        ∙ refused-first (designs .result .verdict) _ _ told (designs .ensures .outcome)
-        ∙ passed-first (fields .result) _ _ (c .before .before .before .before .enum-told .given .1) (fields .ensures);
+          ap outcomeOf same
+          ∙ refused-first (designs .result .verdict) _ _ told (designs .ensures .outcome)
+          ∙ passed-first (fields .result) _ _ (c .before .before .before .before .enum-told .given .1) (fields .ensures);
       straights = λ e. not-both told (sym same ∙ e);
       arcs = λ e. not-both told (sym same ∙ e);
     }
 
--- src/lengths.rt:108:9
 straights-between-requires : tie.Need-straights-between-requires
 straights-between-requires c κs = (
   line-in-range _ (sym (c .before .before .before .before .before .before .check-line .ensures) ∙ ap outcomeOf (c .before .before .before .before .enum-told .given .1)),
   c .before .before .before .curve-lengths .ensures .tangents (c .before .enum-told3 .given .1),
 )
 
--- src/lengths.rt:95:1
 returns-3 : tie.Need-returns-3
 unfolding alignmentOutcome
 returns-3 c =
@@ -92,9 +76,9 @@ returns-3 c =
     let told = c .before .before .before .before .enum-told3 .given .1 in
     record {
       outcome =
-        between .ensures .outcome
-        ∙ passed-first (designs .result .verdict) _ _ told (designs .ensures .outcome)
-        ∙ passed-first (fields .result) _ _ (c .before .before .before .before .before .before .before .enum-told .given .1) (fields .ensures);
+          between .ensures .outcome
+          ∙ passed-first (designs .result .verdict) _ _ told (designs .ensures .outcome)
+          ∙ passed-first (fields .result) _ _ (c .before .before .before .before .before .before .before .enum-told .given .1) (fields .ensures);
       straights = between .ensures .straights;
       arcs = λ e. designs .ensures .arcs told;
     }

@@ -1,8 +1,7 @@
 -- `straights_between`: the loop keeps that the first i straights are long enough, with their lengths, and the tangent before the next.
 -- Assumes nothing.
 use mathlib.Core.Path.{_≡_, refl, sym, _∙_, ap, subst}
-use Prim.Native.Nat.{ℕ, suc, _+_, _-_, _*_, _≤_}
-use native.Mathlib.Numerals.{add-one}
+use Prim.Native.Nat.{ℕ, suc, _+_, _-_, _≤_}
 use native.Mathlib.Omega.{arith}
 use lib.IntN.{pos}
 use borrow.Author.Needs.{needs}
@@ -16,8 +15,6 @@ use Rattle.calculator.proofs.Fronts.{front-empty, front-more}
 use Rattle.calculator.proofs.StraightSteps.{after-distance, before-next, short-straight, long-straight, straight-length}
 use Rattle.calculator.proofs.lengths.straights_between.Statement.{statement}
 use Rattle.calculator.proofs.lengths.straights_between.Tie as tie
-use Rattle.calculator.proofs.lengths.straights_between.Reads as reads
-use Rattle.calculator.proofs.lengths.straights_between.Lts as lts
 
 abbrev Inv-loop : tie.InvT-loop
 Inv-loop line tangents n straights₀ before₀ i₀ straights before i =
@@ -30,51 +27,40 @@ Inv-loop line tangents n straights₀ before₀ i₀ straights before i =
 abbrev μ-loop : tie.MeasureT-loop
 μ-loop line tangents n straights₀ before₀ i₀ straights before i = n + 1 - i
 
--- src/lengths.rt:73:5
 loop-holds : tie.Need-loop-holds Inv-loop μ-loop
 unfolding firstOf tangentBefore
 loop-holds c = (search needs, refl, front-empty _ _ 65, λ h. refl, search needs)
 
--- src/lengths.rt:74:21
 mul-after : tie.Need-mul-after Inv-loop μ-loop
 mul-after c = search needs
 
--- src/lengths.rt:74:21
 array-read-after : tie.Need-array-read-after Inv-loop μ-loop
 array-read-after c = search needs
 
--- src/lengths.rt:75:32
 mul-distance : tie.Need-mul-distance Inv-loop μ-loop
 mul-distance c = search needs
 
--- src/lengths.rt:75:32
 element-copy-out-distance : tie.Need-element-copy-out-distance Inv-loop μ-loop
 element-copy-out-distance c = search needs
 
--- src/lengths.rt:75:32
 cast-distance : tie.Need-cast-distance Inv-loop μ-loop
 cast-distance c = search needs
 
--- src/lengths.rt:75:24
 mul-distance-2 : tie.Need-mul-distance-2 Inv-loop μ-loop
 mul-distance-2 c =
     omega (arith, c .before .before .before .pre .0 .distance-most (c .before .before .loop .i) (c .before .loop-test .taken))
 
--- src/lengths.rt:76:20
 add-ends : tie.Need-add-ends Inv-loop μ-loop
 add-ends c =
     omega (arith, c .before .before .before .pre .1 .small (c .before .before .loop .i))
 
--- src/lengths.rt:77:23
 add-if1 : tie.Need-add-if1 Inv-loop μ-loop
 add-if1 c =
     omega (arith, c .before .before .before .pre .1 .small (c .before .before .loop .i))
 
--- src/lengths.rt:78:81
 cast-t20 : tie.Need-cast-t20 Inv-loop μ-loop
 cast-t20 c = search needs
 
--- src/lengths.rt:78:13
 returns : tie.Need-returns Inv-loop μ-loop
 returns c =
     let start = c .before .before .before .before in
@@ -87,27 +73,21 @@ returns c =
       straights = λ e. not-both refl e;
     }
 
--- src/lengths.rt:80:24
 sub-straights : tie.Need-sub-straights Inv-loop μ-loop
 sub-straights c = search needs
 
--- src/lengths.rt:80:9
 mul-straights : tie.Need-mul-straights Inv-loop μ-loop
 mul-straights c = search needs
 
--- src/lengths.rt:80:9
 array-write-straights : tie.Need-array-write-straights Inv-loop μ-loop
 array-write-straights c = search needs
 
--- src/lengths.rt:82:9
 add-i : tie.Need-add-i Inv-loop μ-loop
 add-i c = search needs
 
--- src/lengths.rt:73:5
 loop-less : tie.Need-loop-less Inv-loop μ-loop
 loop-less c = search needs
 
--- src/lengths.rt:73:5
 loop-again : tie.Need-loop-again Inv-loop μ-loop
 loop-again c =
     let start = c .before .before .before .before in
@@ -115,17 +95,15 @@ loop-again c =
     let line = start .args .t1 in
     let here = c .before .before .loop-test .taken in
     let before = loop .inv .3 here in
-    let after = after-distance line _ (start .pre .1) (loop .i) here in
-    (
+    let after = after-distance line _ (start .pre .1) (loop .i) here in (
       search needs,
       one-more (straightCheck line) (loop .i) (loop .inv .1) (long-straight line (loop .i) before after (c .if1 .left)),
       front-more (loop .i) _ (loop .inv .2) (omega (arith, start .pre .0 .few)) (straight-length line (loop .i) before after (omega (arith, c .if1 .left)))
-      (omega (arith, start .pre .0 .distance-most (loop .i) here)),
+          (omega (arith, start .pre .0 .distance-most (loop .i) here)),
       before-next line _ (start .pre .1) (loop .i),
       start .pre .1 .small (loop .i),
     )
 
--- src/lengths.rt:64:1
 returns-2 : tie.Need-returns-2 Inv-loop μ-loop
 returns-2 c =
     let line = c .before .before .args .t1 in

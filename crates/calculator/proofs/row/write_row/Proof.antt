@@ -1,18 +1,15 @@
 -- `write_row`: the loop keeps the row of the first i curves with the rest as it was, and the ST before the next. Assumes nothing.
-use mathlib.Core.Path.{_≡_, refl, sym, _∙_, ap}
+use mathlib.Core.Path.{_≡_, refl, _∙_, ap}
 use mathlib.Core.List.{_++_}
 use Prim.Native.Nat.{ℕ, _+_, _-_, _*_, _≤_}
 use native.Mathlib.Omega.{arith}
 use lib.IntN.{pos}
-use lib.ListN.{length, drop, length-set}
+use lib.ListN.{length, drop}
 use borrow.Author.Needs.{needs}
 use Rattle.calculator.specs.Stations.{spiralAt, formerST, curveStations}
 use Rattle.calculator.proofs.RowSteps.{numbersTo, next-ST, curve-stored, end-stored}
 use Rattle.calculator.proofs.row.write_row.Statement.{statement}
 use Rattle.calculator.proofs.row.write_row.Tie as tie
-use Rattle.calculator.proofs.row.write_row.Reads as reads
-use Rattle.calculator.proofs.row.write_row.Lts as lts
-use Rattle.calculator.proofs.row.store_curve.Reads as store-curve-reads
 
 abbrev Inv-loop : tie.InvT-loop
 Inv-loop row₀ line straights arcs n station₀ i₀ row station i =
@@ -25,40 +22,31 @@ Inv-loop row₀ line straights arcs n station₀ i₀ row station i =
 abbrev μ-loop : tie.MeasureT-loop
 μ-loop row₀ line straights arcs n station₀ i₀ row station i = n - i
 
--- src/row.rt:45:31
 cast-station : tie.Need-cast-station Inv-loop μ-loop
 cast-station c = search needs
 
--- src/row.rt:45:23
 mul-station : tie.Need-mul-station Inv-loop μ-loop
 mul-station c = search needs
 
--- src/row.rt:47:5
 loop-holds : tie.Need-loop-holds Inv-loop μ-loop
 unfolding formerST curveStations
 loop-holds c = (search needs, refl, refl, search needs, refl)
 
--- src/row.rt:48:22
 mul-spiral : tie.Need-mul-spiral Inv-loop μ-loop
 mul-spiral c = search needs
 
--- src/row.rt:48:13
 element-copy-out-spiral : tie.Need-element-copy-out-spiral Inv-loop μ-loop
 element-copy-out-spiral c = search needs
 
--- src/row.rt:49:42
 mul-store-curve : tie.Need-mul-store-curve Inv-loop μ-loop
 mul-store-curve c = search needs
 
--- src/row.rt:49:58
 mul-store-curve-2 : tie.Need-mul-store-curve-2 Inv-loop μ-loop
 mul-store-curve-2 c = search needs
 
--- src/row.rt:49:58
 array-read-store-curve : tie.Need-array-read-store-curve Inv-loop μ-loop
 array-read-store-curve c = search needs
 
--- src/row.rt:49:80
 cast-store-curve : tie.Need-cast-store-curve Inv-loop μ-loop
 cast-store-curve c =
     let start = c .before .before .before .before in
@@ -66,7 +54,6 @@ cast-store-curve c =
     let curve = start .pre .0 .curve i (c .before .loop-test .taken) in
     omega (arith, curve .L-most)
 
--- src/row.rt:49:72
 mul-store-curve-3 : tie.Need-mul-store-curve-3 Inv-loop μ-loop
 mul-store-curve-3 c =
     let start = c .before .before .before .before in
@@ -74,22 +61,18 @@ mul-store-curve-3 c =
     let curve = start .pre .0 .curve i (c .before .loop-test .taken) in
     omega (arith, curve .L-most)
 
--- src/row.rt:49:96
 mul-store-curve-4 : tie.Need-mul-store-curve-4 Inv-loop μ-loop
 mul-store-curve-4 c = search needs
 
--- src/row.rt:49:96
 array-read-store-curve-2 : tie.Need-array-read-store-curve-2 Inv-loop μ-loop
 array-read-store-curve-2 c = search needs
 
--- src/row.rt:49:9
 store-curve-requires : tie.Need-store-curve-requires Inv-loop μ-loop
 store-curve-requires c κs =
     let start = c .before .before .before .before in
     let loop = c .before .before .loop in
     let here = c .before .loop-test .taken in
-    let few = start .pre .0 .few in
-    (
+    let few = start .pre .0 .few in (
       omega (arith, loop .inv .1, start .pre .1 .1, here),
       (
         omega (arith, loop .inv .3, few, here),
@@ -99,15 +82,12 @@ store-curve-requires c κs =
       ),
     )
 
--- src/row.rt:50:9
 add-i : tie.Need-add-i Inv-loop μ-loop
 add-i c = search needs
 
--- src/row.rt:47:5
 loop-less : tie.Need-loop-less Inv-loop μ-loop
 loop-less c = search needs
 
--- src/row.rt:47:5
 loop-again : tie.Need-loop-again Inv-loop μ-loop
 unfolding spiralAt
 loop-again c =
@@ -117,8 +97,7 @@ loop-again c =
     let stored = c .before .before .store-curve in
     let line = start .args .t1 in
     let straight = start .pre .1 .0 .0 .used (loop .i) (omega (arith, here)) in
-    let arc = start .pre .1 .0 .1 .used (loop .i) here in
-    (
+    let arc = start .pre .1 .0 .1 .used (loop .i) here in (
       search needs,
       stored .kept .0 ∙ loop .inv .1,
       ap pos (stored .ensures .0) ∙ next-ST line (loop .i) (loop .inv .2) straight refl arc,
@@ -126,37 +105,29 @@ loop-again c =
       curve-stored line (loop .i) (loop .inv .2) straight refl arc (start .args .row .now) (loop .row) _ (omega (arith, start .pre .1 .1, here)) (loop .inv .4) (stored .ensures .1),
     )
 
--- src/row.rt:52:28
 mul-row : tie.Need-mul-row Inv-loop μ-loop
 mul-row c = search needs
 
--- src/row.rt:52:28
 array-read-row : tie.Need-array-read-row Inv-loop μ-loop
 array-read-row c = search needs
 
--- src/row.rt:52:18
 add-row : tie.Need-add-row Inv-loop μ-loop
 add-row c =
     let start = c .before .before .before in
     omega (arith, c .before .loop .inv .3, start .pre .0 .few, start .pre .1 .0 .0 .small (start .args .t1 .count))
 
--- src/row.rt:52:9
 mul-row-2 : tie.Need-mul-row-2 Inv-loop μ-loop
 mul-row-2 c = search needs
 
--- src/row.rt:52:5
 mul-row-3 : tie.Need-mul-row-3 Inv-loop μ-loop
 mul-row-3 c = search needs
 
--- src/row.rt:52:5
 slice-write-row : tie.Need-slice-write-row Inv-loop μ-loop
 slice-write-row c = search needs
 
--- src/row.rt:38:1
 same-length : tie.Need-same-length Inv-loop μ-loop
 same-length c = search needs
 
--- src/row.rt:38:1
 returns : tie.Need-returns Inv-loop μ-loop
 returns c =
     let start = c .before .before .before in

@@ -1,0 +1,31 @@
+-- `fill`: one case for each way out. Assumes nothing.
+use Rattle.calculator.proofs.WaysOut.{small-row, filled-row}
+use borrow.Author.Needs.{needs}
+use Rattle.calculator.proofs.row.fill.Statement.{statement}
+use Rattle.calculator.proofs.row.fill.Tie as tie
+
+mul-count : tie.Need-mul-count
+mul-count c = search needs
+
+add-count : tie.Need-add-count
+add-count c = search needs
+
+returns : tie.Need-returns
+returns c =
+    let start = c .before .before .before in
+    small-row (start .args .line) (start .args .row .now) (c .if1 .taken)
+
+write-row-requires : tie.Need-write-row-requires
+write-row-requires c κs = search needs
+
+same-length : tie.Need-same-length
+same-length c = search needs
+
+returns-2 : tie.Need-returns-2
+returns-2 c =
+    let start = c .before .before .before .before .before .before .before in
+    filled-row (start .args .line) (start .args .row .now) _ (c .before .before .before .before .if1 .left) (c .before .before .write-row .ensures)
+
+pub fill-spec : {M : Type 1} → statement M
+fill-spec =
+    tie.close (tie.spec mul-count add-count returns write-row-requires same-length returns-2)

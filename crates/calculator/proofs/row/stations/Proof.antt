@@ -1,0 +1,65 @@
+-- `stations`: a refusal of 3 to 15 leaves the row; where there is none, 16 decides. Assumes nothing.
+use mathlib.Core.Path.{sym, _∙_, ap}
+use Rattle.refusals.specs.Outcomes.{Outcome, outcomeOf}
+use Rattle.refusals.specs.Filling.{countAfter, bufferAfter}
+use Rattle.refusals.proofs.Joining.{passed-left}
+use Rattle.line.specs.Checks.{lineOutcome}
+use Rattle.line.proofs.InRange.{line-in-range}
+use Rattle.calculator.specs.Stations.{stationRow}
+use Rattle.calculator.specs.Answer.{alignmentOutcome, stationCount, stationsAnswer, stationsRow}
+use Rattle.calculator.proofs.WaysOut.{refused-line, passed-line}
+use borrow.Author.Needs.{needs}
+use Rattle.calculator.proofs.row.stations.Statement.{statement}
+use Rattle.calculator.proofs.row.stations.Tie as tie
+
+lengths-of-requires : tie.Need-lengths-of-requires
+lengths-of-requires c κs = search needs
+
+enum-known-verdict : tie.Need-enum-known-verdict
+enum-known-verdict c = search needs
+
+enum-told : tie.Need-enum-told
+enum-told c = search needs
+
+fill-requires : tie.Need-fill-requires
+unfolding alignmentOutcome
+fill-requires c κs =
+    let told = c .before .before .before .enum-told .given .1 in
+    let lengths = c .before .before .before .before .before .lengths-of .ensures in (
+      line-in-range _ (passed-left (lineOutcome _) _ (sym (lengths .outcome) ∙ ap outcomeOf told)),
+      (lengths .straights told, lengths .arcs told),
+    )
+
+returns : tie.Need-returns
+returns c =
+    let start = c .before .before .before .before .before in
+    let lengths = c .before .before .before .lengths-of in
+    refused-line (start .args .line) (start .args .row .now) (lengths .result .verdict) (lengths .ensures .outcome) (c .before .verdict .given .1)
+
+same-length : tie.Need-same-length
+same-length c = search needs
+
+returns-2 : tie.Need-returns-2
+unfolding stationsAnswer stationsRow
+returns-2 c =
+    let start = c .before .before .before .before .before .before .before .before .before .before in
+    let lengths = c .before .before .before .before .before .before .before .before .lengths-of in
+    let line = start .args .line in
+    let row = start .args .row .now in
+    let fill = c .before .before .fill in
+    let all = passed-line line row (lengths .result .verdict) (lengths .ensures .outcome) (c .before .before .before .before .before .before .enum-told .given .1) in (
+      fill .ensures .0 ∙ ap (λ (o : Outcome). countAfter o (stationCount line)) all,
+      fill .ensures .1 ∙ ap (λ (o : Outcome). bufferAfter o (stationRow line) row) all,
+    )
+
+pub stations-spec : {M : Type 1} → statement M
+stations-spec =
+    tie.close
+    (tie.spec
+    lengths-of-requires
+    enum-known-verdict
+    enum-told
+    fill-requires
+    returns
+    same-length
+    returns-2)
