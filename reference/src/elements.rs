@@ -4,10 +4,12 @@
 //! Capital X and Y of the paper are [`Elements::x`] and [`Elements::y`]; the
 //! paper's small x and y are the functions `x_ratio` and `y_ratio`.
 
+use crate::refusal::{refuse, Refusal};
+
 /// Greatest deflection A, seconds of arc (document 01, The line).
 pub const GREATEST_DEFLECTION: u32 = 432_000;
-/// Least radius R, mm (document 01, The line).
-pub const LEAST_RADIUS: u32 = 20_000;
+/// Smallest radius R in range, mm (document 01, The line).
+pub const SMALLEST_RADIUS: u32 = 20_000;
 /// Greatest radius R, mm (document 01, The line).
 pub const GREATEST_RADIUS: u32 = 5_000_000;
 /// Greatest spiral length L, mm (document 01, The line).
@@ -39,47 +41,40 @@ pub struct Elements {
     pub tt: i128,
 }
 
-/// A refusal: its number and place (document 01, Refusal table).
-#[derive(Clone, Copy, Debug, PartialEq, Eq)]
-pub struct Refusal {
-    pub number: u8,
-    pub place: u16,
-}
-
 /// The elements of the curve with deflection `a` in seconds, radius `r` and
 /// spiral length `l` in mm. Checks 9, 10, 11, 14 in this order, place 0
 /// (document 01, Refusal table, Order).
 pub fn elements(a: u32, r: u32, l: u32) -> Result<Elements, Refusal> {
     check_ranges(a, r, l)?;
-    let found = working_rule(a, r, l);
-    if found.d < LEAST_ARC {
-        return refuse(14);
-    }
-    Ok(found)
+    check_arc(a, r, l)?;
+    Ok(working_rule(a, r, l))
 }
 
-/// Checks 9, 10 and 11 (document 01, Refusal table).
-fn check_ranges(a: u32, r: u32, l: u32) -> Result<(), Refusal> {
+/// Checks 9, 10 and 11, place 0 (document 01, Refusal table).
+pub fn check_ranges(a: u32, r: u32, l: u32) -> Result<(), Refusal> {
     if !(1..=GREATEST_DEFLECTION).contains(&a) {
-        return refuse(9);
+        return refuse(9, 0);
     }
-    if !(LEAST_RADIUS..=GREATEST_RADIUS).contains(&r) {
-        return refuse(10);
+    if !(SMALLEST_RADIUS..=GREATEST_RADIUS).contains(&r) {
+        return refuse(10, 0);
     }
     if l > GREATEST_SPIRAL || l > r {
-        return refuse(11);
+        return refuse(11, 0);
     }
     Ok(())
 }
 
-/// A refusal of a call that works on no line: place 0.
-fn refuse<T>(number: u8) -> Result<T, Refusal> {
-    Err(Refusal { number, place: 0 })
+/// Check 14, place 0 (document 01, Refusal table).
+pub fn check_arc(a: u32, r: u32, l: u32) -> Result<(), Refusal> {
+    if arc(a, r, l) < LEAST_ARC {
+        return refuse(14, 0);
+    }
+    Ok(())
 }
 
 /// All six elements of a curve whose fields are in range (document 01,
 /// Working rule).
-fn working_rule(a: u32, r: u32, l: u32) -> Elements {
+pub fn working_rule(a: u32, r: u32, l: u32) -> Elements {
     let t = spiral_angle(l, r);
     let d = arc(a, r, l);
     let (r, l) = (i128::from(r), i128::from(l));
@@ -212,14 +207,14 @@ mod tests {
     #[test]
     fn case_7() {
         assert_eq!(arc(23_573, 350_000, 40_000), -205);
-        assert_eq!(elements(23_573, 350_000, 40_000), refuse(14));
+        assert_eq!(elements(23_573, 350_000, 40_000), refuse(14, 0));
     }
 
     #[test]
     fn case_8() {
         assert_eq!(elements(1, 350_000, 0).unwrap().d, 1_696);
         assert_eq!(arc(1, 200_000, 0), 969);
-        assert_eq!(elements(1, 200_000, 0), refuse(14));
+        assert_eq!(elements(1, 200_000, 0), refuse(14, 0));
     }
 
     #[test]
@@ -233,13 +228,13 @@ mod tests {
     #[test]
     fn ranges_are_checked_in_order() {
         const MOST: u32 = u32::MAX;
-        assert_eq!(elements(0, 0, MOST), refuse(9));
-        assert_eq!(elements(432_001, 0, MOST), refuse(9));
-        assert_eq!(elements(1, 19_999, MOST), refuse(10));
-        assert_eq!(elements(1, 5_000_001, MOST), refuse(10));
-        assert_eq!(elements(1, 5_000_000, 500_001), refuse(11));
-        assert_eq!(elements(1, 20_000, 20_001), refuse(11));
-        assert_eq!(elements(1, 20_000, 20_000), refuse(14));
-        assert_eq!(elements(MOST, MOST, MOST), refuse(9));
+        assert_eq!(elements(0, 0, MOST), refuse(9, 0));
+        assert_eq!(elements(432_001, 0, MOST), refuse(9, 0));
+        assert_eq!(elements(1, 19_999, MOST), refuse(10, 0));
+        assert_eq!(elements(1, 5_000_001, MOST), refuse(10, 0));
+        assert_eq!(elements(1, 5_000_000, 500_001), refuse(11, 0));
+        assert_eq!(elements(1, 20_000, 20_001), refuse(11, 0));
+        assert_eq!(elements(1, 20_000, 20_000), refuse(14, 0));
+        assert_eq!(elements(MOST, MOST, MOST), refuse(9, 0));
     }
 }

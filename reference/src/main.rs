@@ -1,18 +1,21 @@
-//! The reference's command line: makes sample curves and works their elements.
+//! The reference's command line: makes samples and works them.
 
-mod curve;
-mod samples;
-
-use curve::{lines, Curve};
-use reference::elements::{elements, Elements, Refusal};
-use samples::samples;
+use reference::curve::Curve;
+use reference::elements::{elements, Elements};
+use reference::samples::curves::sample_curves;
+use reference::samples::lines::sample_lines;
+use reference::station_call::StationCall;
+use reference::text::lines;
 use std::ffi::OsString;
+use std::fmt::Display;
 use std::io::{self, BufWriter, Read, Write};
 use std::process::ExitCode;
 
 const USAGE: &str = "\
 usage: reference samples SEED COUNT
        reference elements
+       reference lines SEED COUNT
+       reference stations
 
 samples   prints COUNT sample curves, one per line: A R L
           (deflection in seconds, radius and spiral length in mm). The list
@@ -20,12 +23,25 @@ samples   prints COUNT sample curves, one per line: A R L
           rest is random, always the same for the same SEED.
 elements  reads such lines on standard input and prints one line for each:
           X Y k p D TT (in micrometres), or REFUSED number place.
+lines     prints COUNT sample lines of a road, one per line of text:
+          ROOM N V E START D0 SIDE A R L D1 SIDE A R L D2 ..
+          (length of the row that is lent, number of curves, design speed in
+          km/h, superelevation in percent, start station, first distance; then
+          each curve, SIDE 1 being left, and the distance after it; lengths in
+          mm). The list starts with document 01's cases and the edges of the
+          checks; the rest is random, always the same for the same SEED.
+stations  reads such lines on standard input and prints two lines for each:
+          the count of stations, or REFUSED number place; then the whole row
+          after the call (stations in micrometres). Before the call its first
+          entry holds 1, its second 2, and so on.
 ";
 
 /// What the arguments ask for.
 enum Request {
     Samples { seed: u64, count: usize },
     Elements,
+    Lines { seed: u64, count: usize },
+    Stations,
 }
 
 fn main() -> ExitCode {
@@ -55,42 +71,54 @@ fn read_arguments(arguments: impl Iterator<Item = OsString>) -> Option<Request> 
             count: count.parse().ok()?,
         }),
         ["elements"] => Some(Request::Elements),
+        ["lines", seed, count] => Some(Request::Lines {
+            seed: seed.parse().ok()?,
+            count: count.parse().ok()?,
+        }),
+        ["stations"] => Some(Request::Stations),
         _ => None,
     }
 }
 
 fn answer(request: Request) -> io::Result<()> {
-    let mut out = BufWriter::new(io::stdout().lock());
     match request {
-        Request::Samples { seed, count } => print_samples(&mut out, seed, count)?,
-        Request::Elements => print_elements(&mut out)?,
+        Request::Samples { seed, count } => print(sample_curves(seed, count)),
+        Request::Elements => print(lines(&standard_input()?).map(elements_text)),
+        Request::Lines { seed, count } => print(sample_lines(seed, count)),
+        Request::Stations => print(lines(&standard_input()?).map(stations_text)),
+    }
+}
+
+fn standard_input() -> io::Result<Vec<u8>> {
+    let mut text = Vec::new();
+    io::stdin().lock().read_to_end(&mut text)?;
+    Ok(text)
+}
+
+/// Prints each item and a newline.
+fn print(items: impl Iterator<Item = impl Display>) -> io::Result<()> {
+    let mut out = BufWriter::new(io::stdout().lock());
+    for item in items {
+        writeln!(out, "{item}")?;
     }
     out.flush()
 }
 
-fn print_samples(out: &mut impl Write, seed: u64, count: usize) -> io::Result<()> {
-    for curve in samples(seed, count) {
-        writeln!(out, "{curve}")?;
-    }
-    Ok(())
-}
-
-/// One line out for each line of standard input.
-fn print_elements(out: &mut impl Write) -> io::Result<()> {
-    let mut text = Vec::new();
-    io::stdin().lock().read_to_end(&mut text)?;
-    for line in lines(&text) {
-        writeln!(out, "{}", elements_line(Curve::read(line)))?;
-    }
-    Ok(())
-}
-
-/// The elements of a curve, or its refusal, as a line of text.
-fn elements_line(curve: Curve) -> String {
-    match elements(curve.a, curve.r, curve.l) {
+/// The elements of the curve on a line of text, or its refusal.
+fn elements_text(line: &[u8]) -> String {
+    let Curve { a, r, l } = Curve::read(line);
+    match elements(a, r, l) {
         Ok(Elements { x, y, k, p, d, tt }) => format!("{x} {y} {k} {p} {d} {tt}"),
-        Err(Refusal { number, place }) => format!("REFUSED {number} {place}"),
+        Err(refusal) => refusal.to_string(),
     }
+}
+
+/// The answer to the call on a line of text, and on a second line its row.
+fn stations_text(line: &[u8]) -> String {
+    let (answer, row) = StationCall::read(line).make();
+    let answer = answer.map_or_else(|refusal| refusal.to_string(), |count| count.to_string());
+    let row: Vec<String> = row.iter().map(u64::to_string).collect();
+    format!("{answer}\n{}", row.join(" "))
 }
 
 #[cfg(test)]
@@ -98,13 +126,26 @@ mod tests {
     use super::*;
 
     #[test]
-    fn lines_of_text() {
-        let line = |a, r, l| elements_line(Curve::new(a, r, l));
+    fn elements_as_text() {
         assert_eq!(
-            line(177_764, 350_000, 40_000),
+            elements_text(b"177764 350000 40000"),
             "39986940 761727 19997823 190454 261638467 180989278"
         );
-        assert_eq!(line(23_573, 350_000, 40_000), "REFUSED 14 0");
-        assert_eq!(line(0, 0, 0), "REFUSED 9 0");
+        assert_eq!(elements_text(b"23573 350000 40000"), "REFUSED 14 0");
+        assert_eq!(elements_text(b""), "REFUSED 9 0");
+    }
+
+    #[test]
+    fn stations_as_text() {
+        assert_eq!(
+            stations_text(b"6 1 70 8 0 500000 0 177764 350000 40000 400000"),
+            "5\n319010722 359010722 620649189 660649189 879659911 6"
+        );
+        assert_eq!(
+            stations_text(b"5 1 70 8 0 180990 0 177764 350000 40000 400000"),
+            "REFUSED 15 0\n1 2 3 4 5"
+        );
+        assert_eq!(stations_text(b"0 0 70 8 0 500000"), "REFUSED 16 0\n");
+        assert_eq!(stations_text(b""), "REFUSED 4 0\n");
     }
 }

@@ -1,14 +1,14 @@
 //! The sample curves: document 01's cases, the edges of the ranges, then
-//! random curves. The same seed gives the same list on every machine.
+//! random curves.
 
+use super::dice::Dice;
+use super::limits::{greatest_spiral, least_deflection};
 use crate::curve::Curve;
-use reference::elements::{
-    arc, GREATEST_DEFLECTION, GREATEST_RADIUS, GREATEST_SPIRAL, LEAST_ARC, LEAST_RADIUS,
-};
+use crate::elements::{GREATEST_DEFLECTION, GREATEST_RADIUS, SMALLEST_RADIUS};
 
 /// The first `count` sample curves of the seed's endless list.
-pub fn samples(seed: u64, count: usize) -> impl Iterator<Item = Curve> {
-    let mut dice = Dice { state: seed };
+pub fn sample_curves(seed: u64, count: usize) -> impl Iterator<Item = Curve> {
+    let mut dice = Dice::new(seed);
     let random = std::iter::repeat_with(move || random_round(&mut dice)).flatten();
     document_cases()
         .into_iter()
@@ -77,22 +77,17 @@ fn random_round(dice: &mut Dice) -> Vec<Curve> {
         nearly_whole_spiral(dice),
         out_of_range(dice),
     ];
-    let radius = dice.between(LEAST_RADIUS, GREATEST_RADIUS);
+    let radius = dice.between(SMALLEST_RADIUS, GREATEST_RADIUS);
     curves.extend(least_arcs(dice, radius));
-    let radius = dice.spread(LEAST_RADIUS, GREATEST_RADIUS);
+    let radius = dice.spread(SMALLEST_RADIUS, GREATEST_RADIUS);
     curves.extend(least_arcs(dice, radius));
     curves
-}
-
-/// The greatest L in range for radius `r`.
-fn greatest_spiral(r: u32) -> u32 {
-    r.min(GREATEST_SPIRAL)
 }
 
 /// In range, all three uniform.
 fn uniform_curve(dice: &mut Dice) -> Curve {
     let a = dice.between(1, GREATEST_DEFLECTION);
-    let r = dice.between(LEAST_RADIUS, GREATEST_RADIUS);
+    let r = dice.between(SMALLEST_RADIUS, GREATEST_RADIUS);
     let l = dice.between(0, greatest_spiral(r));
     Curve::new(a, r, l)
 }
@@ -100,7 +95,7 @@ fn uniform_curve(dice: &mut Dice) -> Curve {
 /// In range, small radii as frequent as large ones.
 fn spread_radius_curve(dice: &mut Dice) -> Curve {
     let a = dice.between(1, GREATEST_DEFLECTION);
-    let r = dice.spread(LEAST_RADIUS, GREATEST_RADIUS);
+    let r = dice.spread(SMALLEST_RADIUS, GREATEST_RADIUS);
     let l = dice.between(0, greatest_spiral(r));
     Curve::new(a, r, l)
 }
@@ -108,7 +103,7 @@ fn spread_radius_curve(dice: &mut Dice) -> Curve {
 /// In range, with small deflections and spirals frequent.
 fn small_curve(dice: &mut Dice) -> Curve {
     let a = dice.spread(1, GREATEST_DEFLECTION);
-    let r = dice.spread(LEAST_RADIUS, GREATEST_RADIUS);
+    let r = dice.spread(SMALLEST_RADIUS, GREATEST_RADIUS);
     let l = dice.spread(1, greatest_spiral(r));
     Curve::new(a, r, l)
 }
@@ -116,14 +111,14 @@ fn small_curve(dice: &mut Dice) -> Curve {
 /// In range, L = 0, small deflections frequent.
 fn simple_curve(dice: &mut Dice) -> Curve {
     let a = dice.spread(1, GREATEST_DEFLECTION);
-    let r = dice.between(LEAST_RADIUS, GREATEST_RADIUS);
+    let r = dice.between(SMALLEST_RADIUS, GREATEST_RADIUS);
     Curve::new(a, r, 0)
 }
 
 /// A small radius and L in its upper tenth.
 fn long_spiral(dice: &mut Dice) -> Curve {
     let a = dice.between(180_000, GREATEST_DEFLECTION);
-    let r = dice.between(LEAST_RADIUS, 600_000);
+    let r = dice.between(SMALLEST_RADIUS, 600_000);
     let most = greatest_spiral(r);
     let l = dice.between(most - most / 10, most);
     Curve::new(a, r, l)
@@ -132,7 +127,7 @@ fn long_spiral(dice: &mut Dice) -> Curve {
 /// A small radius and L just below, at, or just above its greatest.
 fn nearly_whole_spiral(dice: &mut Dice) -> Curve {
     let a = dice.between(180_000, GREATEST_DEFLECTION);
-    let r = dice.between(LEAST_RADIUS, 600_000);
+    let r = dice.between(SMALLEST_RADIUS, 600_000);
     let most = greatest_spiral(r);
     let l = dice.between(most - 3, most + 1);
     Curve::new(a, r, l)
@@ -150,21 +145,6 @@ fn least_arcs(dice: &mut Dice, r: u32) -> Vec<Curve> {
     ]
 }
 
-/// The least A from 1 whose arc D passes check 14. In range there always is
-/// one: at 432,000 seconds the full angle is over 2, and L is at most R.
-fn least_deflection(r: u32, l: u32) -> u32 {
-    let (mut low, mut high) = (1, GREATEST_DEFLECTION);
-    while low < high {
-        let middle = (low + high) / 2;
-        if arc(middle, r, l) >= LEAST_ARC {
-            high = middle;
-        } else {
-            low = middle + 1;
-        }
-    }
-    low
-}
-
 /// A curve in range with one field put out of range, or three numbers of any
 /// size.
 fn out_of_range(dice: &mut Dice) -> Curve {
@@ -175,7 +155,7 @@ fn out_of_range(dice: &mut Dice) -> Curve {
             ..curve
         },
         1 => Curve {
-            r: dice.between(0, LEAST_RADIUS - 1),
+            r: dice.between(0, SMALLEST_RADIUS - 1),
             ..curve
         },
         2 => Curve {
@@ -194,44 +174,13 @@ fn out_of_range(dice: &mut Dice) -> Curve {
     }
 }
 
-/// The generator splitmix64.
-struct Dice {
-    state: u64,
-}
-
-impl Dice {
-    fn next(&mut self) -> u64 {
-        self.state = self.state.wrapping_add(0x9E37_79B9_7F4A_7C15);
-        let mut z = self.state;
-        z = (z ^ (z >> 30)).wrapping_mul(0xBF58_476D_1CE4_E5B9);
-        z = (z ^ (z >> 27)).wrapping_mul(0x94D0_49BB_1331_11EB);
-        z ^ (z >> 31)
-    }
-
-    /// A number from `least` to `most`, all alike.
-    fn between(&mut self, least: u32, most: u32) -> u32 {
-        let width = u64::from(most) - u64::from(least) + 1;
-        let offset = self.next() % width;
-        least + u32::try_from(offset).expect("the offset is below the width")
-    }
-
-    /// A number from `least` (above 0) to `most`, each doubling about as
-    /// frequent as the next. In whole numbers, so alike on every machine.
-    fn spread(&mut self, least: u32, most: u32) -> u32 {
-        let power = self.between(least.ilog2(), most.ilog2());
-        let low = 1 << power;
-        let high = low + (low - 1);
-        self.between(low.max(least), high.min(most))
-    }
-}
-
 #[cfg(test)]
 mod tests {
     use super::*;
-    use reference::elements::elements;
+    use crate::elements::elements;
 
     fn list(seed: u64, count: usize) -> Vec<Curve> {
-        samples(seed, count).collect()
+        sample_curves(seed, count).collect()
     }
 
     #[test]
@@ -244,23 +193,6 @@ mod tests {
     }
 
     #[test]
-    fn splitmix64_is_the_published_one() {
-        let mut dice = Dice { state: 1_234_567 };
-        assert_eq!(dice.next(), 6_457_827_717_110_365_317);
-        assert_eq!(dice.next(), 3_203_168_211_198_807_973);
-    }
-
-    #[test]
-    fn spread_stays_in_range() {
-        let mut dice = Dice { state: 1 };
-        for (least, most) in [(1, 1), (1, 432_000), (20_000, 5_000_000), (5, u32::MAX)] {
-            for _ in 0..10_000 {
-                assert!((least..=most).contains(&dice.spread(least, most)));
-            }
-        }
-    }
-
-    #[test]
     fn edges_are_all_there() {
         // Nine lengths for each of eight radii, less R − 1 of 0 and R + 1 of
         // the largest number; seven deflections.
@@ -269,9 +201,9 @@ mod tests {
 
     #[test]
     fn least_arcs_are_at_the_edge() {
-        let mut dice = Dice { state: 1 };
+        let mut dice = Dice::new(1);
         for _ in 0..10_000 {
-            let r = dice.spread(LEAST_RADIUS, GREATEST_RADIUS);
+            let r = dice.spread(SMALLEST_RADIUS, GREATEST_RADIUS);
             let accepted: Vec<bool> = least_arcs(&mut dice, r)
                 .iter()
                 .map(|curve| elements(curve.a, curve.r, curve.l).is_ok())

@@ -1,0 +1,2 @@
+-- Laws of the lines of numbers.
+pub mod ByCases

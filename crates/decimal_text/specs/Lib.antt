@@ -1,0 +1,2 @@
+-- What the contracts of `decimal_text` cite.
+pub mod Lines

@@ -1,0 +1,39 @@
+-- `print_stations` is safe: the row that is lent has 300 entries at the most. Assumes nothing.
+use mathlib.Core.Path.{sym}
+use lib.Seq.{length-take-le}
+use borrow.Author.Needs.{needs}
+use Rattle.station_table.proofs.print_stations.Statement.{statement}
+use Rattle.station_table.proofs.print_stations.Tie as tie
+
+line-of-requires : tie.Need-line-of-requires
+line-of-requires c κs = search needs
+
+shared-slice-read-room-of : tie.Need-shared-slice-read-room-of
+shared-slice-read-room-of c = search needs
+
+room-of-requires : tie.Need-room-of-requires
+room-of-requires c κs = search needs
+
+array-borrow-prefix-row : tie.Need-array-borrow-prefix-row
+array-borrow-prefix-row c = search needs
+
+slice-aggregate-print-call : tie.Need-slice-aggregate-print-call
+slice-aggregate-print-call c = sym (length-take-le (c .before .room-of .result) _ (c .before .room-of .ensures))
+
+print-call-requires : tie.Need-print-call-requires
+print-call-requires c κs = search needs
+
+returns : tie.Need-returns
+returns c = search needs
+
+pub print-stations-spec : {M : Type 1} → statement M
+print-stations-spec =
+    tie.close
+    (tie.spec
+    line-of-requires
+    shared-slice-read-room-of
+    room-of-requires
+    array-borrow-prefix-row
+    slice-aggregate-print-call
+    print-call-requires
+    returns)

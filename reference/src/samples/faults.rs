@@ -1,0 +1,156 @@
+//! Faults put into a line that passes every check.
+
+use super::dice::Dice;
+use super::limits::{
+    greatest_spiral, least_deflection, least_distance, least_radius, least_spiral,
+};
+use crate::curve::Curve;
+use crate::elements::{GREATEST_DEFLECTION, GREATEST_RADIUS, SMALLEST_RADIUS};
+use crate::line::{Line, GREATEST_DISTANCE, GREATEST_START};
+use crate::refusal::Refusal;
+use crate::road_tables::DesignSpeed;
+use crate::station_call::StationCall;
+
+/// The calculator's refusals, in an order in which each fault can be put after
+/// the former ones: first those that are worked from fields in range, a curve's
+/// before its straights'.
+const PUT_ORDER: [u8; 13] = [16, 12, 13, 14, 15, 11, 10, 9, 8, 6, 5, 4, 3];
+
+/// A fault that the line could have: any refusal, at any of its places.
+pub fn any_fault(dice: &mut Dice, line: &Line) -> Refusal {
+    let n = line.curve_count();
+    let number = match n {
+        0 => dice.one_of(&[3, 4, 5, 6, 8, 16]),
+        _ => dice.one_of(&PUT_ORDER),
+    };
+    let place = match number {
+        8 | 15 => dice.index(0, n),
+        9..=14 => dice.index(1, n),
+        _ => 0,
+    };
+    Refusal { number, place }
+}
+
+/// Puts a fault for each of these refusals into a call that is accepted.
+pub fn put_faults(dice: &mut Dice, call: &mut StationCall, faults: &[Refusal]) {
+    for number in PUT_ORDER {
+        for fault in faults.iter().filter(|fault| fault.number == number) {
+            put_fault(dice, call, *fault);
+        }
+    }
+}
+
+fn put_fault(dice: &mut Dice, call: &mut StationCall, fault: Refusal) {
+    let line = &mut call.line;
+    let i = fault.place;
+    match fault.number {
+        3 => line.n = dice.one_of(&[65, 66, 127, 128, u32::MAX]),
+        4 => line.v = dice.one_of(&[0, 30, 39, 41, 75, 119, 121, 130, u32::MAX]),
+        5 => line.e = dice.one_of(&[0, 1, 13, u32::MAX]),
+        6 => line.start = dice.one_of(&[GREATEST_START + 1, u32::MAX]),
+        8 => line.distances[i] = dice.one_of(&[0, GREATEST_DISTANCE + 1, u32::MAX]),
+        15 => line.distances[i] = number_below(dice, 1, least_distance(line, i)),
+        16 => call.room = number_below(dice, 0, 4 * line.n + 1),
+        number => line.curves[i - 1] = faulty_curve(dice, line, i, number),
+    }
+}
+
+/// Curve i with the fault of refusal 9 to 14.
+fn faulty_curve(dice: &mut Dice, line: &Line, i: usize, number: u8) -> Curve {
+    let curve = line.curve(i);
+    let speed = line.speed().expect("the design speed is one of the nine");
+    match number {
+        9 => Curve {
+            a: dice.one_of(&[0, GREATEST_DEFLECTION + 1, u32::MAX]),
+            ..curve
+        },
+        10 => Curve {
+            r: dice.one_of(&[0, SMALLEST_RADIUS - 1, GREATEST_RADIUS + 1, u32::MAX]),
+            ..curve
+        },
+        11 => Curve {
+            l: dice.one_of(&[greatest_spiral(curve.r) + 1, u32::MAX]),
+            ..curve
+        },
+        12 => small_radius(dice, speed, line.e, curve),
+        13 => short_spiral(dice, speed, curve),
+        14 => short_arc(dice, speed, curve),
+        _ => unreachable!("{number} is no refusal of a curve"),
+    }
+}
+
+/// The curve with a radius that is too small at speed and superelevation.
+fn small_radius(dice: &mut Dice, speed: DesignSpeed, e: u32, curve: Curve) -> Curve {
+    let r = number_below(dice, SMALLEST_RADIUS, least_radius(speed, e));
+    let l = curve.l.min(r);
+    Curve { r, l, ..curve }
+}
+
+/// The curve with a spiral that is too short.
+fn short_spiral(dice: &mut Dice, speed: DesignSpeed, curve: Curve) -> Curve {
+    let l = number_below(dice, 1, least_spiral(speed, curve.r)).min(curve.r);
+    Curve { l, ..curve }
+}
+
+/// The curve with a deflection that leaves too short an arc. Where none in
+/// range does, the curve gets the least spiral first.
+fn short_arc(dice: &mut Dice, speed: DesignSpeed, curve: Curve) -> Curve {
+    let Curve { r, mut l, .. } = curve;
+    if least_deflection(r, l) == 1 {
+        l = least_spiral(speed, r).min(r);
+    }
+    let a = number_below(dice, 1, least_deflection(r, l));
+    Curve { a, r, l }
+}
+
+/// A number from `lowest` to just below `limit`; the last one in half of all
+/// cases.
+fn number_below(dice: &mut Dice, lowest: u32, limit: u32) -> u32 {
+    let last = limit - 1;
+    let any = dice.between(lowest, last);
+    dice.one_of(&[any, last])
+}
+
+#[cfg(test)]
+mod tests {
+    use super::super::roads::road;
+    use super::*;
+
+    /// An accepted call with faults for these refusals.
+    fn faulty(dice: &mut Dice, n: usize, faults: &[Refusal]) -> StationCall {
+        let line = road(dice, n);
+        let mut call = StationCall { room: 257, line };
+        put_faults(dice, &mut call, faults);
+        call
+    }
+
+    fn fault(number: u8, place: usize) -> Refusal {
+        Refusal { number, place }
+    }
+
+    #[test]
+    fn one_fault_is_the_refusal() {
+        let mut dice = Dice::new(1);
+        for n in (0..=10).chain([64]) {
+            for _ in 0..100 {
+                let line = road(&mut dice, n);
+                let fault = any_fault(&mut dice, &line);
+                let mut call = StationCall { room: 257, line };
+                put_faults(&mut dice, &mut call, &[fault]);
+                assert_eq!(call.make().0, Err(fault), "{call}");
+            }
+        }
+    }
+
+    #[test]
+    fn first_fault_in_order_is_the_refusal() {
+        let mut dice = Dice::new(1);
+        for number in [8, 9, 10, 11, 12, 13, 14, 15] {
+            for _ in 0..100 {
+                let [first, second] = [fault(number, 1), fault(number, 2)];
+                let call = faulty(&mut dice, 3, &[second, first, fault(16, 0)]);
+                assert_eq!(call.make().0, Err(first), "{call}");
+            }
+        }
+    }
+}
