@@ -6,3 +6,5 @@ pub mod CurveSteps
 pub mod StraightSteps
 pub mod RowSteps
 pub mod WaysOut
+pub mod Accepted
+pub mod InOrder

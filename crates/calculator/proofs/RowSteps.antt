@@ -30,9 +30,9 @@ numbers-length line (suc i) =
 module _ (line : Line) (i : ℕ) {former straight spiral arc : ℕ} (f : pos former ≡ formerST line i) (s : pos straight ≡ straightAt line i) where
   -- The next ST, and the four numbers of a curve.
   module _ (l : pos spiral ≡ spiralAt line i) (d : pos arc ≡ arcAt line i) where
-    pub next-ST : pos (former + straight + spiral + arc + spiral) ≡ formerST line (i + 1)
+    pub next-ST : {st : ℕ} → st ≡ former + straight + spiral + arc + spiral → pos st ≡ formerST line (i + 1)
     unfolding formerST
-    next-ST = (λ j. f j +ℤ s j +ℤ l j +ℤ d j +ℤ l j) ∙ simp add-one
+    next-ST e = ap pos e ∙ (λ j. f j +ℤ s j +ℤ l j +ℤ d j +ℤ l j) ∙ simp add-one
 
     four-numbers : fourFrom former straight spiral arc
         ≡ map natAbs (pointsAt line i .TS ∷ pointsAt line i .SC ∷ pointsAt line i .CS ∷ pointsAt line i .ST ∷ [])

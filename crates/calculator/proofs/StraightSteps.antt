@@ -36,7 +36,7 @@ module _ (line : Line) (i : ℕ) {before after : ℕ} (b : pos before ≡ tangen
   unfolding straightAt
   straight-is = sym (λ j. pos (1000 * distanceAt line i) -ℤ b j -ℤ a j) ∙ minus-minus (1000 * distanceAt line i) before after
 
-  straight-reaches : leZ (pos 1000) (straightAt line i) ≡ leb (before + after + 1000) (1000 * distanceAt line i)
+  pub straight-reaches : leZ (pos 1000) (straightAt line i) ≡ leb (before + after + 1000) (1000 * distanceAt line i)
   straight-reaches = ap (leZ (pos 1000)) straight-is ∙ reaches (1000 * distanceAt line i) (before + after) 1000
 
   pub short-straight : 1000 * distanceAt line i < before + after + 1000 → straightCheck line i ≡ refused 15 i

@@ -2,4 +2,5 @@
 pub mod RoadTables
 pub mod Stations
 pub mod Answer
+pub mod Order
 pub mod Lengths

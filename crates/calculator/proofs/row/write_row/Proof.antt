@@ -100,7 +100,7 @@ loop-again c =
     let arc = start .pre .1 .0 .1 .used (loop .i) here in (
       search needs,
       stored .kept .0 ∙ loop .inv .1,
-      ap pos (stored .ensures .0) ∙ next-ST line (loop .i) (loop .inv .2) straight refl arc,
+      next-ST line (loop .i) (loop .inv .2) straight refl arc (stored .ensures .0),
       omega (arith, stored .ensures .0, loop .inv .3, start .pre .1 .0 .0 .small (loop .i), start .pre .1 .0 .1 .small (loop .i), start .pre .0 .curve (loop .i) here .L-most),
       curve-stored line (loop .i) (loop .inv .2) straight refl arc (start .args .row .now) (loop .row) _ (omega (arith, start .pre .1 .1, here)) (loop .inv .4) (stored .ensures .1),
     )

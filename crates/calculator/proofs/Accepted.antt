@@ -1,0 +1,97 @@
+-- What holds of a line that passes the calculator's checks 3 to 15: its fields are in range, and so are its tangents, arcs and straights.
+-- Assumes nothing.
+use mathlib.Core.Path.{_≡_, refl, sym, _∙_, ap}
+use mathlib.Core.Bool.{Bool, true}
+use Prim.Native.Nat.{ℕ, zero, suc, _+_, _-_, _*_, _<_, _≤_}
+use native.Mathlib.Decide.{decLt}
+use native.Mathlib.Omega.{arith}
+use lib.Dec.{leb}
+use lib.IntN.{ℤ, pos, _-ℤ_}
+use lib.Signed.{leZ}
+use borrow.Author.Tests.{lt-ltb, le-ltb, leb-true}
+use Rattle.numbers.specs.Whole.{Between}
+use Rattle.numbers.proofs.Ranges.{natural}
+use Rattle.refusals.specs.Outcomes.{passed, need, _▹_, firstOf}
+use Rattle.refusals.proofs.Joining.{passed-left, passed-right, need-holds}
+use Rattle.refusals.proofs.InTurn.{each-passes}
+use Rattle.line.specs.declared.Line.{Line}
+use Rattle.line.specs.Checks.{distanceAt, curveAt, curveOutcome, lineOutcome}
+use Rattle.line.specs.Ranges.{LineInRange}
+use Rattle.line.proofs.InRange.{line-in-range, curve-passes}
+use Rattle.elements.specs.WorkingRule.{arcOf}
+use Rattle.elements.specs.Answer.{arcOutcome, elementOutcome}
+use Rattle.elements.proofs.Bounds.{bounds}
+use Rattle.elements.proofs.Arc.{arc-answered}
+use Rattle.calculator.specs.RoadTables.{radiusServes, spiralServes}
+use Rattle.calculator.specs.Stations.{arcAt, tangentAt, tangentBefore, tangentAfter, straightAt}
+use Rattle.calculator.specs.Answer.{designOutcome, curveCheck, straightCheck, alignmentOutcome}
+use Rattle.calculator.proofs.StraightSteps.{straight-reaches, straight-length}
+
+pub record Accepted (line : Line) : Type 0 where
+  pub in-range : LineInRange line
+  pub tangent : (i : ℕ) → i < line .count → Between (tangentAt line i) 0 12300000000
+  pub arc : (i : ℕ) → i < line .count → Between (arcAt line i) 1000 10471975510
+  pub straight : (i : ℕ) → i ≤ line .count → Between (straightAt line i) 1000 20000000000
+
+-- ---- the tangents at the ends of a distance
+
+module _ (line : Line) (ok : LineInRange line) where
+  tangent-between : (i : ℕ) → i < line .count → Between (tangentAt line i) 0 12300000000
+  unfolding tangentAt
+  tangent-between i h = bounds _ _ _ (ok .curve i h) .TT
+
+  before-between : (i : ℕ) → i ≤ line .count → Between (tangentBefore line i) 0 12300000000
+  unfolding tangentBefore
+  before-between zero h = natural 0 (omega arith) (omega arith)
+  before-between (suc i) h = tangent-between i h
+
+  after-between : (i : ℕ) → Between (tangentAfter line i) 0 12300000000
+  unfolding tangentAfter
+  after-between i = go (decLt i (line .count))
+    where
+      go : Dec (i < line .count) → Between (tangentAfter line i) 0 12300000000
+      go (yes h) = rw (lt-ltb i (line .count) h) (tangent-between i h)
+      go (no h) = rw (le-ltb i (line .count) (omega arith)) (natural 0 (omega arith) (omega arith))
+
+  -- ---- a straight that passes 15, and an arc that passes 14
+
+  straight-between : (i : ℕ) → i ≤ line .count → straightCheck line i ≡ passed → Between (straightAt line i) 1000 20000000000
+  unfolding straightCheck
+  straight-between i h e =
+      let b = before-between i h in
+      let a = after-between i in
+      let far : b .value + a .value + 1000 ≤ 1000 * distanceAt line i =
+      leb-true _ _ (sym (straight-reaches line i (sym (b .same)) (sym (a .same))) ∙ need-holds _ 15 i e) in
+      record {
+        value = 1000 * distanceAt line i - (b .value + a .value);
+        same = sym (straight-length line i (sym (b .same)) (sym (a .same)) (omega arith));
+        low = omega arith;
+        high = omega (arith, ok .distance-most i h);
+      }
+
+  arc-between : (i : ℕ) → i < line .count → curveCheck line i ≡ passed → Between (arcAt line i) 1000 10471975510
+  unfolding arcAt curveCheck designOutcome elementOutcome arcOutcome
+  arc-between i h e =
+      let c = curveAt line i in
+      let A = c .deflection in
+      let R = c .radius in
+      let L = c .spiral in
+      let radius = need (radiusServes (line .speed) (line .crossfall) R) 12 (suc i) in
+      let spiral = need (spiralServes (line .speed) R L) 13 (suc i) in
+      let arc : leZ (pos 1000) (arcOf A R L) ≡ true = need-holds _ 14 (suc i) (passed-right spiral _ (passed-right radius _ e)) in
+      arc-answered A R L
+      (rw (curve-passes A R L 0 (ok .curve i h)) (ap (λ (t : Bool). need t 14 0) arc))
+
+pub accepted : (line : Line) → alignmentOutcome line ≡ passed → Accepted line
+unfolding alignmentOutcome
+accepted line e =
+    let ok = line-in-range line (passed-left (lineOutcome line) _ e) in
+    let later = passed-right (lineOutcome line) _ e in
+    let curves = passed-left (firstOf (curveCheck line) (line .count)) _ later in
+    let straights = passed-right (firstOf (curveCheck line) (line .count)) (firstOf (straightCheck line) (suc (line .count))) later in
+    record {
+      in-range = ok;
+      tangent = tangent-between line ok;
+      arc = λ i h. arc-between line ok i h (each-passes (curveCheck line) (line .count) curves i h);
+      straight = λ i h. straight-between line ok i h (each-passes (straightCheck line) (suc (line .count)) straights i (omega arith));
+    }
