@@ -8,3 +8,5 @@ pub mod RowSteps
 pub mod WaysOut
 pub mod Accepted
 pub mod InOrder
+pub mod Unused
+pub mod FirstRefusal

@@ -2,4 +2,5 @@
 pub mod Walk
 pub mod InRange
 pub mod Unused
+pub mod Numbers
 pub mod Examples

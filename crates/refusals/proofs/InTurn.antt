@@ -56,3 +56,9 @@ module _ (check : ℕ → Outcome) where
     where
       later : FirstRefusal count n p → FirstRefusal (suc count) n p
       later f = record { index = f .index; below = omega (arith, f .below); before = f .before; here = f .here }
+
+-- Checks that agree, in turn.
+pub alike-in-turn : (f g : ℕ → Outcome) (count : ℕ) → ((i : ℕ) → i < count → f i ≡ g i) → firstOf f count ≡ firstOf g count
+unfolding firstOf
+alike-in-turn f g zero e = refl
+alike-in-turn f g (suc i) e = join (alike-in-turn f g i (λ k h. e k (omega arith))) (e i (omega arith))

@@ -33,6 +33,11 @@ pub refused-by : (a b : Outcome) {n p : ℕ} → (a ▹ b) ≡ refused n p → (
 refused-by passed b e = inr (refl, e)
 refused-by (refused n p) b e = inl e
 
+-- A single check that refuses.
+pub need-refused : (t : Bool) (m q : ℕ) {n p : ℕ} → need t m q ≡ refused n p → (t ≡ false) × (n ≡ m) × (p ≡ q)
+need-refused true m q {n} {p} e = never n p e
+need-refused false m q e = (refl, cc, cc)
+
 -- The first refusal is the whole one.
 pub refused-first : (v : Verdict) {r : Refusal} (a b : Outcome) → v ≡ Refused r → outcomeOf v ≡ a → outcomeOf v ≡ (a ▹ b)
 refused-first v {r} a b e h = h ∙ stays v r a b e h

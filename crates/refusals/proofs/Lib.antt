@@ -1,3 +1,4 @@
 -- Laws of outcomes.
 pub mod Joining
 pub mod InTurn
+pub mod Numbers
