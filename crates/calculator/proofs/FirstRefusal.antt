@@ -33,18 +33,18 @@ pub record BeforeStraight (line : Line) (i : ℕ) : Type 0 where
   pub straights : firstOf (straightCheck line) i ≡ passed
 
 -- The tests of the curve at entry i.
-abbrev pub radiusAt : Line → ℕ → Bool
-radiusAt line i = radiusServes (line .speed) (line .crossfall) (curveAt line i .radius)
+abbrev pub radiusServesAt : Line → ℕ → Bool
+radiusServesAt line i = radiusServes (line .speed) (line .crossfall) (curveAt line i .radius)
 
-abbrev pub spiralAt : Line → ℕ → Bool
-spiralAt line i = spiralServes (line .speed) (curveAt line i .radius) (curveAt line i .spiral)
+abbrev pub spiralServesAt : Line → ℕ → Bool
+spiralServesAt line i = spiralServes (line .speed) (curveAt line i .radius) (curveAt line i .spiral)
 
 -- Why a line and a row of `room` numbers are refused with number n and place p.
 pub data Reason (line : Line) (room n p : ℕ) : Type 0 where
   fields : 3 ≤ n → n ≤ 11 → lineOutcome line ≡ refused n p → Reason line room n p
-  radius : (i : ℕ) → BeforeCurve line i → radiusAt line i ≡ false → n ≡ 12 → p ≡ suc i → Reason line room n p
-  spiral : (i : ℕ) → BeforeCurve line i → radiusAt line i ≡ true → spiralAt line i ≡ false → n ≡ 13 → p ≡ suc i → Reason line room n p
-  arc : (i : ℕ) → BeforeCurve line i → radiusAt line i ≡ true → spiralAt line i ≡ true → leZ (pos 1000) (arcAt line i) ≡ false → n ≡ 14 → p ≡ suc i
+  radius : (i : ℕ) → BeforeCurve line i → radiusServesAt line i ≡ false → n ≡ 12 → p ≡ suc i → Reason line room n p
+  spiral : (i : ℕ) → BeforeCurve line i → radiusServesAt line i ≡ true → spiralServesAt line i ≡ false → n ≡ 13 → p ≡ suc i → Reason line room n p
+  arc : (i : ℕ) → BeforeCurve line i → radiusServesAt line i ≡ true → spiralServesAt line i ≡ true → leZ (pos 1000) (arcAt line i) ≡ false → n ≡ 14 → p ≡ suc i
       → Reason line room n p
   straight : (i : ℕ) → BeforeStraight line i → leZ (pos 1000) (straightAt line i) ≡ false → n ≡ 15 → p ≡ i → Reason line room n p
   row : alignmentOutcome line ≡ passed → room < stationCount line → n ≡ 16 → p ≡ 0 → Reason line room n p
@@ -52,21 +52,21 @@ pub data Reason (line : Line) (room n p : ℕ) : Type 0 where
 module _ (line : Line) (room : ℕ) {n p : ℕ} where
   by-curve : (i : ℕ) → BeforeCurve line i → curveCheck line i ≡ refused n p → Reason line room n p
   unfolding curveCheck designOutcome arcOutcome arcAt
-  by-curve i b e = ⊎-elim first (λ q. ⊎-elim (second (q .0)) (third (q .0)) (refused-by (need (spiralAt line i) 13 (suc i)) _ (q .1))) (refused-by (need (radiusAt line i) 12 (suc i)) _ e)
+  by-curve i b e = ⊎-elim first (λ q. ⊎-elim (second (q .0)) (third (q .0)) (refused-by (need (spiralServesAt line i) 13 (suc i)) _ (q .1))) (refused-by (need (radiusServesAt line i) 12 (suc i)) _ e)
     where
-      first : need (radiusAt line i) 12 (suc i) ≡ refused n p → Reason line room n p
-      first q = let t = need-refused (radiusAt line i) 12 (suc i) q in radius i b (t .0) (t .1) (t .2)
+      first : need (radiusServesAt line i) 12 (suc i) ≡ refused n p → Reason line room n p
+      first q = let t = need-refused (radiusServesAt line i) 12 (suc i) q in radius i b (t .0) (t .1) (t .2)
 
-      second : need (radiusAt line i) 12 (suc i) ≡ passed → need (spiralAt line i) 13 (suc i) ≡ refused n p → Reason line room n p
+      second : need (radiusServesAt line i) 12 (suc i) ≡ passed → need (spiralServesAt line i) 13 (suc i) ≡ refused n p → Reason line room n p
       second r q =
-          let t = need-refused (spiralAt line i) 13 (suc i) q in
-          spiral i b (need-holds (radiusAt line i) 12 (suc i) r) (t .0) (t .1) (t .2)
+          let t = need-refused (spiralServesAt line i) 13 (suc i) q in
+          spiral i b (need-holds (radiusServesAt line i) 12 (suc i) r) (t .0) (t .1) (t .2)
 
-      third : need (radiusAt line i) 12 (suc i) ≡ passed
-          → (need (spiralAt line i) 13 (suc i) ≡ passed) × (need (leZ (pos 1000) (arcAt line i)) 14 (suc i) ≡ refused n p) → Reason line room n p
+      third : need (radiusServesAt line i) 12 (suc i) ≡ passed
+          → (need (spiralServesAt line i) 13 (suc i) ≡ passed) × (need (leZ (pos 1000) (arcAt line i)) 14 (suc i) ≡ refused n p) → Reason line room n p
       third r q =
           let t = need-refused (leZ (pos 1000) (arcAt line i)) 14 (suc i) (q .1) in
-          arc i b (need-holds (radiusAt line i) 12 (suc i) r) (need-holds (spiralAt line i) 13 (suc i) (q .0)) (t .0) (t .1) (t .2)
+          arc i b (need-holds (radiusServesAt line i) 12 (suc i) r) (need-holds (spiralServesAt line i) 13 (suc i) (q .0)) (t .0) (t .1) (t .2)
 
   by-straight : (i : ℕ) → BeforeStraight line i → straightCheck line i ≡ refused n p → Reason line room n p
   unfolding straightCheck

@@ -10,3 +10,4 @@ pub mod Accepted
 pub mod InOrder
 pub mod Unused
 pub mod FirstRefusal
+pub mod Examples

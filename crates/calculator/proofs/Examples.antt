@@ -1,0 +1,67 @@
+-- Document 01's cases 1 to 5, from the definitions. Assumes nothing.
+use mathlib.Core.Path.{_≡_, refl}
+use mathlib.Core.Bool.{true, false}
+use mathlib.Core.List.{List, [], _∷_, _++_}
+use Prim.Native.Nat.{ℕ}
+use lib.IntN.{pos}
+use lib.ListN.{replicate}
+use Rattle.refusals.specs.Outcomes.{firstOf}
+use Rattle.refusals.specs.Filling.{filled, unfilled}
+use Rattle.line.specs.declared.Curve.{Curve}
+use Rattle.line.specs.declared.Line.{Line}
+use Rattle.line.specs.Checks.{startOutcome, headOutcome, distanceOutcome, curveOutcome, bodyOutcome, lineOutcome}
+use Rattle.elements.specs.WorkingRule.{rounded, fullAngle, halfAngle, spiralAngle, term, alternating, sineOf, cosineOf, t2, t3, t4, unitX, unitY, spiralX, spiralY, centreOf, shiftOf, arcOf, tanOf, tangentOf}
+use Rattle.elements.specs.Answer.{arcOutcome}
+use Rattle.calculator.specs.RoadTables.{underSpeed, frictionAt, leastSpiralAt, radiusServes, spiralServes}
+use Rattle.calculator.specs.Stations.{spiralAt, arcAt, tangentAt, tangentBefore, tangentAfter, straightAt, formerST, pointsAt, endOf, curveStations, stationsOf, stationRow}
+use Rattle.calculator.specs.Answer.{designOutcome, curveCheck, straightCheck, alignmentOutcome, roomCheck, stationsOutcome, stationsAnswer, stationsRow}
+
+-- V 70, e 8, start 0, second distance 400,000 and A 177,764 right; the first distance, R and L differ by case.
+abbrev lineOf : (distance R L : ℕ) → Line
+lineOf distance R L =
+    record {
+      speed = 70;
+      crossfall = 8;
+      start = 0;
+      count = 1;
+      distances = distance ∷ 400000 ∷ replicate 63 0;
+      curves = curve 177764 R L ∷ replicate 63 (curve 0 0 0);
+    }
+  where
+    curve : ℕ → ℕ → ℕ → Curve
+    curve A R L = record { left = false; deflection = A; radius = R; spiral = L }
+
+-- A row with two numbers more than there are stations.
+abbrev row : List ℕ
+row = 1 ∷ 2 ∷ 3 ∷ 4 ∷ 5 ∷ 6 ∷ 7 ∷ []
+
+pub record Examples : Type 0 where
+  pub case-1 : stationsAnswer (lineOf 500000 350000 40000) 7 ≡ filled 5
+  pub case-1-row : stationsRow (lineOf 500000 350000 40000) row
+      ≡ 319010722 ∷ 359010722 ∷ 620649189 ∷ 660649189 ∷ 879659911 ∷ 6 ∷ 7 ∷ []
+  pub case-1-small : stationsAnswer (lineOf 500000 350000 40000) 4 ≡ unfilled 16 0
+  pub case-2 : stationsAnswer (lineOf 180991 350000 40000) 5 ≡ filled 5
+  pub case-2-straight : straightAt (lineOf 180991 350000 40000) 0 ≡ pos 1722
+  pub case-3 : stationsAnswer (lineOf 180990 350000 40000) 0 ≡ unfilled 15 0
+  pub case-3-row : stationsRow (lineOf 180990 350000 40000) row ≡ row
+  pub case-4 : stationsAnswer (lineOf 500000 350000 39999) 5 ≡ unfilled 13 1
+  pub case-5 : radiusServes 70 8 167751 ≡ true
+  pub case-5-accepted : stationsAnswer (lineOf 500000 167751 0) 5 ≡ filled 5
+  pub case-5-refused : stationsAnswer (lineOf 500000 167750 0) 5 ≡ unfilled 12 1
+
+pub examples : Examples
+unfolding firstOf startOutcome headOutcome distanceOutcome curveOutcome bodyOutcome lineOutcome rounded fullAngle halfAngle spiralAngle term alternating sineOf cosineOf t2 t3 t4 unitX unitY spiralX spiralY centreOf shiftOf arcOf tanOf tangentOf arcOutcome underSpeed frictionAt leastSpiralAt radiusServes spiralServes spiralAt arcAt tangentAt tangentBefore tangentAfter straightAt formerST pointsAt endOf curveStations stationsOf stationRow designOutcome curveCheck straightCheck alignmentOutcome roomCheck stationsOutcome stationsAnswer stationsRow
+examples =
+    record {
+      case-1 = refl;
+      case-1-row = refl;
+      case-1-small = refl;
+      case-2 = refl;
+      case-2-straight = refl;
+      case-3 = refl;
+      case-3-row = refl;
+      case-4 = refl;
+      case-5 = refl;
+      case-5-accepted = refl;
+      case-5-refused = refl;
+    }
