@@ -1,21 +1,20 @@
 -- What holds of a line that passes the calculator's checks 3 to 15: its fields are in range, and so are its tangents, arcs and straights.
 -- Assumes nothing.
-use mathlib.Core.Path.{_≡_, refl, sym, _∙_, ap}
+use mathlib.Core.Path.{_≡_, sym, _∙_, ap}
 use mathlib.Core.Bool.{Bool, true}
 use Prim.Native.Nat.{ℕ, zero, suc, _+_, _-_, _*_, _<_, _≤_}
 use native.Mathlib.Decide.{decLt}
 use native.Mathlib.Omega.{arith}
-use lib.Dec.{leb}
-use lib.IntN.{ℤ, pos, _-ℤ_}
+use lib.IntN.{pos}
 use lib.Signed.{leZ}
 use borrow.Author.Tests.{lt-ltb, le-ltb, leb-true}
 use Rattle.numbers.specs.Whole.{Between}
 use Rattle.numbers.proofs.Ranges.{natural}
-use Rattle.refusals.specs.Outcomes.{passed, need, _▹_, firstOf}
+use Rattle.refusals.specs.Outcomes.{passed, need, firstOf}
 use Rattle.refusals.proofs.Joining.{passed-left, passed-right, need-holds}
 use Rattle.refusals.proofs.InTurn.{each-passes}
 use Rattle.line.specs.declared.Line.{Line}
-use Rattle.line.specs.Checks.{distanceAt, curveAt, curveOutcome, lineOutcome}
+use Rattle.line.specs.Checks.{distanceAt, curveAt, lineOutcome}
 use Rattle.line.specs.Ranges.{LineInRange}
 use Rattle.line.proofs.InRange.{line-in-range, curve-passes}
 use Rattle.elements.specs.WorkingRule.{arcOf}

@@ -1,6 +1,6 @@
 -- A refusal of the calculator is the first in document 01's order: whatever comes before it passes. Assumes nothing.
-use mathlib.Core.Path.{_≡_, sym, _∙_, ap}
-use mathlib.Core.Logic.{_⊎_, inl, inr, ⊎-elim}
+use mathlib.Core.Path.{_≡_}
+use mathlib.Core.Logic.{_⊎_, ⊎-elim}
 use mathlib.Core.Bool.{Bool, true, false}
 use Prim.Native.Nat.{ℕ, suc, _<_, _≤_}
 use native.Mathlib.Omega.{arith}
@@ -8,7 +8,7 @@ use lib.Dec.{leb}
 use lib.IntN.{pos}
 use lib.Signed.{leZ}
 use borrow.Author.Tests.{leb-false}
-use Rattle.refusals.specs.Outcomes.{passed, refused, need, _▹_, firstOf}
+use Rattle.refusals.specs.Outcomes.{passed, refused, need, firstOf}
 use Rattle.refusals.proofs.Joining.{need-holds, need-refused, refused-by}
 use Rattle.refusals.proofs.InTurn.{find-first}
 use Rattle.line.specs.declared.Line.{Line}

@@ -1,16 +1,16 @@
 -- The stations of a line that passes 3 to 15 never go back, from the start to the end, and each fits 64 bits. Assumes nothing.
-use mathlib.Core.Path.{_≡_, refl, sym, _∙_, ap}
+use mathlib.Core.Path.{_≡_, refl, _∙_, ap}
 use mathlib.Core.List.{List, [], _∷_, _++_, map, map-append}
 use Prim.Native.Nat.{ℕ, zero, suc, _+_, _*_, _<_, _≤_}
 use native.Mathlib.Omega.{arith}
-use lib.IntN.{ℤ, pos, natAbs, _+ℤ_}
+use lib.IntN.{ℤ, pos, natAbs}
 use lib.ListN.{getD}
 use Rattle.numbers.specs.Whole.{Between}
 use Rattle.numbers.proofs.Ranges.{natural, widen, sum-between}
 use Rattle.refusals.specs.Outcomes.{passed}
 use Rattle.line.specs.declared.Line.{Line}
 use Rattle.line.specs.Checks.{curveAt}
-use Rattle.calculator.specs.Stations.{spiralAt, arcAt, straightAt, pointsAt, formerST, endOf, curveStations, stationsOf, stationRow}
+use Rattle.calculator.specs.Stations.{spiralAt, pointsAt, formerST, endOf, curveStations, stationsOf, stationRow}
 use Rattle.calculator.specs.Answer.{alignmentOutcome}
 use Rattle.calculator.specs.Order.{Ascent, done, up}
 use Rattle.calculator.proofs.RowSteps.{numbersTo}

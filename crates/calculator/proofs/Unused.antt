@@ -1,6 +1,6 @@
 -- The calculator reads no unused entry and no side: lines that are alike where they are used have the same answer and the same row. Assumes
 -- nothing.
-use mathlib.Core.Path.{_≡_, refl, sym, _∙_, ap}
+use mathlib.Core.Path.{_≡_, refl, _∙_, ap}
 use mathlib.Core.Bool.{cond}
 use mathlib.Core.List.{List, [], _∷_, _++_, map}
 use Prim.Native.Nat.{ℕ, zero, suc, _+_, _*_, _<_, _≤_}
@@ -9,15 +9,14 @@ use native.Mathlib.Omega.{arith}
 use lib.Dec.{leb, ltb}
 use lib.IntN.{pos, natAbs, _+ℤ_}
 use lib.ListN.{length}
-use borrow.Author.Tests.{lt-ltb, le-ltb}
-use Rattle.refusals.specs.Outcomes.{Outcome, need, _▹_, firstOf}
-use Rattle.refusals.specs.Filling.{countAfter, bufferAfter}
+use borrow.Author.Tests.{le-ltb}
+use Rattle.refusals.specs.Outcomes.{need, _▹_, firstOf}
 use Rattle.refusals.proofs.InTurn.{alike-in-turn}
 use Rattle.line.specs.declared.Line.{Line}
 use Rattle.line.specs.Ranges.{AlikeWhereUsed}
 use Rattle.line.proofs.Unused.{unused-ignored}
 use Rattle.calculator.specs.Stations.{spiralAt, arcAt, tangentAt, tangentBefore, tangentAfter, straightAt, pointsAt, formerST, endOf, curveStations, stationsOf, stationRow}
-use Rattle.calculator.specs.Answer.{designOutcome, curveCheck, straightCheck, alignmentOutcome, roomCheck, stationsOutcome, stationsAnswer, stationsRow}
+use Rattle.calculator.specs.Answer.{curveCheck, straightCheck, alignmentOutcome, roomCheck, stationsOutcome, stationsAnswer, stationsRow}
 
 module _ (l m : Line) (alike : AlikeWhereUsed l m) where
   module _ (i : ℕ) (h : i < l .count) where

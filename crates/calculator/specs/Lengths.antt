@@ -8,7 +8,6 @@ use Rattle.refusals.specs.declared.Verdict.the-variants.{Pass}
 use Rattle.refusals.specs.Outcomes.{outcomeOf, firstOf}
 use Rattle.line.specs.declared.Line.{Line}
 use Rattle.calculator.specs.declared.lengths.CurveLengths.{CurveLengths}
-use Rattle.calculator.specs.declared.lengths.Straights.{Straights}
 use Rattle.calculator.specs.declared.lengths.Lengths.{Lengths}
 use Rattle.calculator.specs.Stations.{arcAt, tangentAt, straightAt}
 use Rattle.calculator.specs.Answer.{curveCheck, straightCheck, alignmentOutcome}
@@ -36,10 +35,11 @@ pub record CurvesOf (line : Line) (c : CurveLengths) : Type 0 where
   pub tangents : c .verdict ≡ Pass → TangentsTo line (line .count) (c .tangents)
   pub arcs : c .verdict ≡ Pass → ArcsTo line (line .count) (c .arcs)
 
--- 15, and where it passes the straights.
-pub record StraightsOf (line : Line) (s : Straights) : Type 0 where
-  pub outcome : outcomeOf (s .verdict) ≡ firstOf (straightCheck line) (suc (line .count))
-  pub straights : s .verdict ≡ Pass → StraightsTo line (suc (line .count)) (s .straights)
+-- 15, and where it passes the straights; the arcs are handed on.
+pub record StraightsOf (line : Line) (c : CurveLengths) (l : Lengths) : Type 0 where
+  pub outcome : outcomeOf (l .verdict) ≡ firstOf (straightCheck line) (suc (line .count))
+  pub straights : l .verdict ≡ Pass → StraightsTo line (suc (line .count)) (l .straights)
+  pub arcs : l .arcs ≡ c .arcs
 
 -- 3 to 15, and where they pass the straights and the arcs.
 pub record LengthsOf (line : Line) (l : Lengths) : Type 0 where

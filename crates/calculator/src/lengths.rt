@@ -18,12 +18,6 @@ struct CurveLengths {
     arcs: [u64; 64],
 }
 
-// The straights of a line; beside a refusal they mean nothing.
-struct Straights {
-    verdict: Verdict,
-    straights: [u64; 65],
-}
-
 // The straights and the arcs of a line; beside a refusal they mean nothing.
 pub(crate) struct Lengths {
     pub verdict: Verdict,
@@ -79,32 +73,35 @@ fn curve_lengths(line: Line) -> CurveLengths
 }
 
 // Refusal 15, by ascending distance, and the straights: each distance less the tangents of the curves at its ends.
-fn straights_between(line: Line, tangents: [u64; 65]) -> Straights
+fn with_straights(line: Line, curves: CurveLengths) -> Lengths
     requires { ⌜ LineInRange line ⌝ }
-    requires { ⌜ TangentsTo line (line .count) tangents ⌝ }
-    ensures { λ s. ⌜ StraightsOf line s ⌝ }
+    requires { ⌜ TangentsTo line (line .count) (curves .tangents) ⌝ }
+    ensures { λ l. ⌜ StraightsOf line curves l ⌝ }
 {
     let n = line.count;
+    let arcs = curves.arcs;
     let mut straights: [u64; 65] = [0; 65];
     let mut before: u64 = 0;
     let mut i = 0;
     while i <= n {
-        let after = tangents[i];
+        let after = curves.tangents[i];
         let distance = 1000 * (line.distances[i] as u64);
         let ends = before + after;
         if distance < ends + 1000 {
-            return Straights {
+            return Lengths {
                 verdict: Verdict::Refused(Refusal::ShortStraight(i as u16)),
                 straights,
+                arcs,
             };
         }
         straights[i] = distance - ends;
         before = after;
         i += 1;
     }
-    Straights {
+    Lengths {
         verdict: Verdict::Pass,
         straights,
+        arcs,
     }
 }
 
@@ -132,14 +129,5 @@ pub(crate) fn lengths_of(line: Line) -> Lengths
     let Verdict::Pass = designs else {
         return no_lengths(designs);
     };
-    let tangents = curves.tangents;
-    let between = straights_between(line, tangents);
-    let verdict = between.verdict;
-    let straights = between.straights;
-    let arcs = curves.arcs;
-    Lengths {
-        verdict,
-        straights,
-        arcs,
-    }
+    with_straights(line, curves)
 }

@@ -10,6 +10,7 @@ ghost use Rattle.line.specs.Ranges.{LineInRange};
 ghost use Rattle.calculator.specs.Stations.{stationRow};
 ghost use Rattle.calculator.specs.Answer.{stationCount, stationsAnswer, stationsRow, roomCheck};
 ghost use Rattle.calculator.specs.Lengths.{StraightsTo, ArcsTo, fourFrom};
+use crate::lengths::Lengths;
 use crate::lengths::lengths_of;
 use line::Line;
 use refusals::FillAnswer;
@@ -35,9 +36,9 @@ fn store_curve(row: &mut [u64], at: usize, former: u64, straight: u64, spiral: u
 }
 
 // The stations of a line from its lengths.
-fn write_row(line: Line, straights: [u64; 65], arcs: [u64; 64], row: &mut [u64])
+fn write_row(line: Line, lengths: Lengths, row: &mut [u64])
     requires { ⌜ LineInRange line ⌝ }
-    requires { ⌜ StraightsTo line (suc (line .count)) straights × ArcsTo line (line .count) arcs ⌝ }
+    requires { ⌜ StraightsTo line (suc (line .count)) (lengths .straights) × ArcsTo line (line .count) (lengths .arcs) ⌝ }
     requires { ⌜ stationCount line ≤ length (now row) ⌝ }
     ensures { λ _. ⌜ now (row .exit) ≡ stationRow line ++ drop (stationCount line) (now (row .entry)) ⌝ }
 {
@@ -50,19 +51,19 @@ fn write_row(line: Line, straights: [u64; 65], arcs: [u64; 64], row: &mut [u64])
             &mut *row,
             4 * i,
             station,
-            straights[i],
+            lengths.straights[i],
             1000 * (spiral as u64),
-            arcs[i],
+            lengths.arcs[i],
         );
         i += 1;
     }
-    row[4 * n] = station + straights[n];
+    row[4 * n] = station + lengths.straights[n];
 }
 
 // Refusal 16, or the row of a line whose lengths are known.
-fn fill(line: Line, straights: [u64; 65], arcs: [u64; 64], row: &mut [u64]) -> FillAnswer
+fn fill(line: Line, lengths: Lengths, row: &mut [u64]) -> FillAnswer
     requires { ⌜ LineInRange line ⌝ }
-    requires { ⌜ StraightsTo line (suc (line .count)) straights × ArcsTo line (line .count) arcs ⌝ }
+    requires { ⌜ StraightsTo line (suc (line .count)) (lengths .straights) × ArcsTo line (line .count) (lengths .arcs) ⌝ }
     ensures { λ a. ⌜ fillReplyOf a ≡ countAfter (roomCheck line (length (now (row .entry)))) (stationCount line) ⌝ }
     ensures { λ _. ⌜ now (row .exit) ≡ bufferAfter (roomCheck line (length (now (row .entry)))) (stationRow line) (now (row .entry)) ⌝ }
 {
@@ -70,7 +71,7 @@ fn fill(line: Line, straights: [u64; 65], arcs: [u64; 64], row: &mut [u64]) -> F
     if row.len() < count {
         return FillAnswer::Refused(Refusal::SmallBuffer);
     }
-    write_row(line, straights, arcs, &mut *row);
+    write_row(line, lengths, &mut *row);
     FillAnswer::Count(count)
 }
 
@@ -86,10 +87,6 @@ pub fn stations(line: Line, row: &mut [u64]) -> FillAnswer
     let verdict = lengths.verdict;
     match verdict {
         Verdict::Refused(refusal) => FillAnswer::Refused(refusal),
-        Verdict::Pass => {
-            let straights = lengths.straights;
-            let arcs = lengths.arcs;
-            fill(line, straights, arcs, row)
-        }
+        Verdict::Pass => fill(line, lengths, row),
     }
 }

@@ -1,9 +1,10 @@
 -- `lengths_of`: the first refusal of three parts is the line's; where all pass, the lengths are there. Assumes nothing.
-use mathlib.Core.Path.{sym, _∙_, ap}
+use mathlib.Core.Path.{sym, _∙_, ap, subst}
 use Rattle.refusals.specs.Outcomes.{outcomeOf}
 use Rattle.refusals.proofs.Joining.{refused-first, passed-first, not-both}
 use Rattle.line.proofs.InRange.{line-in-range}
 use Rattle.calculator.specs.Answer.{alignmentOutcome}
+use Rattle.calculator.specs.Lengths.{ArcsTo}
 use borrow.Author.Needs.{needs}
 use Rattle.calculator.proofs.lengths.lengths_of.Statement.{statement}
 use Rattle.calculator.proofs.lengths.lengths_of.Tie as tie
@@ -61,26 +62,26 @@ returns-2 c =
       arcs = λ e. not-both told (sym same ∙ e);
     }
 
-straights-between-requires : tie.Need-straights-between-requires
-straights-between-requires c κs = (
-  line-in-range _ (sym (c .before .before .before .before .before .before .check-line .ensures) ∙ ap outcomeOf (c .before .before .before .before .enum-told .given .1)),
-  c .before .before .before .curve-lengths .ensures .tangents (c .before .enum-told3 .given .1),
+with-straights-requires : tie.Need-with-straights-requires
+with-straights-requires c κs = (
+  line-in-range _ (sym (c .before .before .before .before .before .check-line .ensures) ∙ ap outcomeOf (c .before .before .before .enum-told .given .1)),
+  c .before .before .curve-lengths .ensures .tangents (c .enum-told3 .given .1),
 )
 
 returns-3 : tie.Need-returns-3
 unfolding alignmentOutcome
 returns-3 c =
-    let fields = c .before .before .before .before .before .before .before .before .before .check-line in
-    let designs = c .before .before .before .before .before .before .curve-lengths in
-    let between = c .before .before .straights-between in
-    let told = c .before .before .before .before .enum-told3 .given .1 in
+    let fields = c .before .before .before .before .before .before .check-line in
+    let designs = c .before .before .before .curve-lengths in
+    let whole = c .with-straights in
+    let told = c .before .enum-told3 .given .1 in
     record {
       outcome =
-          between .ensures .outcome
+          whole .ensures .outcome
           ∙ passed-first (designs .result .verdict) _ _ told (designs .ensures .outcome)
-          ∙ passed-first (fields .result) _ _ (c .before .before .before .before .before .before .before .enum-told .given .1) (fields .ensures);
-      straights = between .ensures .straights;
-      arcs = λ e. designs .ensures .arcs told;
+          ∙ passed-first (fields .result) _ _ (c .before .before .before .before .enum-told .given .1) (fields .ensures);
+      straights = whole .ensures .straights;
+      arcs = λ e. subst (ArcsTo _ _) (sym (whole .ensures .arcs)) (designs .ensures .arcs told);
     }
 
 pub lengths-of-spec : {M : Type 1} → statement M
@@ -97,5 +98,5 @@ lengths-of-spec =
     enum-told-4
     no-lengths-requires-2
     returns-2
-    straights-between-requires
+    with-straights-requires
     returns-3)

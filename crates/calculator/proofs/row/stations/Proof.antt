@@ -24,8 +24,8 @@ enum-told c = search needs
 fill-requires : tie.Need-fill-requires
 unfolding alignmentOutcome
 fill-requires c κs =
-    let told = c .before .before .before .enum-told .given .1 in
-    let lengths = c .before .before .before .before .before .lengths-of .ensures in (
+    let told = c .before .enum-told .given .1 in
+    let lengths = c .before .before .before .lengths-of .ensures in (
       line-in-range _ (passed-left (lineOutcome _) _ (sym (lengths .outcome) ∙ ap outcomeOf told)),
       (lengths .straights told, lengths .arcs told),
     )
@@ -42,12 +42,12 @@ same-length c = search needs
 returns-2 : tie.Need-returns-2
 unfolding stationsAnswer stationsRow
 returns-2 c =
-    let start = c .before .before .before .before .before .before .before .before .before .before in
-    let lengths = c .before .before .before .before .before .before .before .before .lengths-of in
+    let start = c .before .before .before .before .before .before .before .before in
+    let lengths = c .before .before .before .before .before .before .lengths-of in
     let line = start .args .line in
     let row = start .args .row .now in
     let fill = c .before .before .fill in
-    let all = passed-line line row (lengths .result .verdict) (lengths .ensures .outcome) (c .before .before .before .before .before .before .enum-told .given .1) in (
+    let all = passed-line line row (lengths .result .verdict) (lengths .ensures .outcome) (c .before .before .before .before .enum-told .given .1) in (
       fill .ensures .0 ∙ ap (λ (o : Outcome). countAfter o (stationCount line)) all,
       fill .ensures .1 ∙ ap (λ (o : Outcome). bufferAfter o (stationRow line) row) all,
     )

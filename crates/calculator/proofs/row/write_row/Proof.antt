@@ -12,7 +12,7 @@ use Rattle.calculator.proofs.row.write_row.Statement.{statement}
 use Rattle.calculator.proofs.row.write_row.Tie as tie
 
 abbrev Inv-loop : tie.InvT-loop
-Inv-loop row₀ line straights arcs n station₀ i₀ row station i =
+Inv-loop row₀ line lengths n station₀ i₀ row station i =
     (i ≤ n)
     × (length row ≡ length row₀)
     × (pos station ≡ formerST line i)
@@ -20,7 +20,7 @@ Inv-loop row₀ line straights arcs n station₀ i₀ row station i =
     × (row ≡ numbersTo line i ++ drop (4 * i) row₀)
 
 abbrev μ-loop : tie.MeasureT-loop
-μ-loop row₀ line straights arcs n station₀ i₀ row station i = n - i
+μ-loop row₀ line lengths n station₀ i₀ row station i = n - i
 
 cast-station : tie.Need-cast-station Inv-loop μ-loop
 cast-station c = search needs
@@ -44,34 +44,34 @@ mul-store-curve c = search needs
 mul-store-curve-2 : tie.Need-mul-store-curve-2 Inv-loop μ-loop
 mul-store-curve-2 c = search needs
 
-array-read-store-curve : tie.Need-array-read-store-curve Inv-loop μ-loop
-array-read-store-curve c = search needs
+element-copy-out-store-curve : tie.Need-element-copy-out-store-curve Inv-loop μ-loop
+element-copy-out-store-curve c = search needs
 
 cast-store-curve : tie.Need-cast-store-curve Inv-loop μ-loop
 cast-store-curve c =
-    let start = c .before .before .before .before in
-    let i = c .before .before .loop .i in
-    let curve = start .pre .0 .curve i (c .before .loop-test .taken) in
+    let start = c .before .before .before .before .before in
+    let i = c .before .before .before .loop .i in
+    let curve = start .pre .0 .curve i (c .before .before .loop-test .taken) in
     omega (arith, curve .L-most)
 
 mul-store-curve-3 : tie.Need-mul-store-curve-3 Inv-loop μ-loop
 mul-store-curve-3 c =
-    let start = c .before .before .before .before in
-    let i = c .before .before .loop .i in
-    let curve = start .pre .0 .curve i (c .before .loop-test .taken) in
+    let start = c .before .before .before .before .before in
+    let i = c .before .before .before .loop .i in
+    let curve = start .pre .0 .curve i (c .before .before .loop-test .taken) in
     omega (arith, curve .L-most)
 
 mul-store-curve-4 : tie.Need-mul-store-curve-4 Inv-loop μ-loop
 mul-store-curve-4 c = search needs
 
-array-read-store-curve-2 : tie.Need-array-read-store-curve-2 Inv-loop μ-loop
-array-read-store-curve-2 c = search needs
+element-copy-out-store-curve-2 : tie.Need-element-copy-out-store-curve-2 Inv-loop μ-loop
+element-copy-out-store-curve-2 c = search needs
 
 store-curve-requires : tie.Need-store-curve-requires Inv-loop μ-loop
 store-curve-requires c κs =
-    let start = c .before .before .before .before in
-    let loop = c .before .before .loop in
-    let here = c .before .loop-test .taken in
+    let start = c .before .before .before .before .before .before in
+    let loop = c .before .before .before .before .loop in
+    let here = c .before .before .before .loop-test .taken in
     let few = start .pre .0 .few in (
       omega (arith, loop .inv .1, start .pre .1 .1, here),
       (
@@ -91,9 +91,9 @@ loop-less c = search needs
 loop-again : tie.Need-loop-again Inv-loop μ-loop
 unfolding spiralAt
 loop-again c =
-    let start = c .before .before .before .before .before .before .before in
-    let loop = c .before .before .before .before .before .loop in
-    let here = c .before .before .before .before .loop-test .taken in
+    let start = c .before .before .before .before .before .before .before .before .before in
+    let loop = c .before .before .before .before .before .before .before .loop in
+    let here = c .before .before .before .before .before .before .loop-test .taken in
     let stored = c .before .before .store-curve in
     let line = start .args .t1 in
     let straight = start .pre .1 .0 .0 .used (loop .i) (omega (arith, here)) in
@@ -108,13 +108,13 @@ loop-again c =
 mul-row : tie.Need-mul-row Inv-loop μ-loop
 mul-row c = search needs
 
-array-read-row : tie.Need-array-read-row Inv-loop μ-loop
-array-read-row c = search needs
+element-copy-out-row : tie.Need-element-copy-out-row Inv-loop μ-loop
+element-copy-out-row c = search needs
 
 add-row : tie.Need-add-row Inv-loop μ-loop
 add-row c =
-    let start = c .before .before .before in
-    omega (arith, c .before .loop .inv .3, start .pre .0 .few, start .pre .1 .0 .0 .small (start .args .t1 .count))
+    let start = c .before .before .before .before in
+    omega (arith, c .before .before .loop .inv .3, start .pre .0 .few, start .pre .1 .0 .0 .small (start .args .t1 .count))
 
 mul-row-2 : tie.Need-mul-row-2 Inv-loop μ-loop
 mul-row-2 c = search needs
@@ -130,8 +130,8 @@ same-length c = search needs
 
 returns : tie.Need-returns Inv-loop μ-loop
 returns c =
-    let start = c .before .before .before in
-    let loop = c .before .loop in
+    let start = c .before .before .before .before in
+    let loop = c .before .before .loop in
     let line = start .args .t1 in
     let all : loop .i ≡ line .count = omega arith in
     end-stored line (loop .inv .2 ∙ ap (formerST line) all) (start .pre .1 .0 .0 .used (line .count) (omega arith)) (start .args .row .now) (loop .row) (start .pre .1 .1)
@@ -150,17 +150,17 @@ write-row-spec =
     element-copy-out-spiral
     mul-store-curve
     mul-store-curve-2
-    array-read-store-curve
+    element-copy-out-store-curve
     cast-store-curve
     mul-store-curve-3
     mul-store-curve-4
-    array-read-store-curve-2
+    element-copy-out-store-curve-2
     store-curve-requires
     add-i
     loop-less
     loop-again
     mul-row
-    array-read-row
+    element-copy-out-row
     add-row
     mul-row-2
     mul-row-3

@@ -1,4 +1,4 @@
--- `straights_between`: the loop keeps that the first i straights are long enough, with their lengths, and the tangent before the next.
+-- `with_straights`: the loop keeps that the first i straights are long enough, with their lengths, and the tangent before the next.
 -- Assumes nothing.
 use mathlib.Core.Path.{_≡_, refl, sym, _∙_, ap, subst}
 use Prim.Native.Nat.{ℕ, suc, _+_, _-_, _≤_}
@@ -13,11 +13,11 @@ use Rattle.calculator.specs.Answer.{straightCheck}
 use Rattle.calculator.specs.Lengths.{StraightsTo}
 use Rattle.calculator.proofs.Fronts.{front-empty, front-more}
 use Rattle.calculator.proofs.StraightSteps.{after-distance, before-next, short-straight, long-straight, straight-length}
-use Rattle.calculator.proofs.lengths.straights_between.Statement.{statement}
-use Rattle.calculator.proofs.lengths.straights_between.Tie as tie
+use Rattle.calculator.proofs.lengths.with_straights.Statement.{statement}
+use Rattle.calculator.proofs.lengths.with_straights.Tie as tie
 
 abbrev Inv-loop : tie.InvT-loop
-Inv-loop line tangents n straights₀ before₀ i₀ straights before i =
+Inv-loop line curves n arcs straights₀ before₀ i₀ straights before i =
     (i ≤ n + 1)
     × (firstOf (straightCheck line) i ≡ passed)
     × StraightsTo line i straights
@@ -25,7 +25,7 @@ Inv-loop line tangents n straights₀ before₀ i₀ straights before i =
     × (before ≤ 12300000000)
 
 abbrev μ-loop : tie.MeasureT-loop
-μ-loop line tangents n straights₀ before₀ i₀ straights before i = n + 1 - i
+μ-loop line curves n arcs straights₀ before₀ i₀ straights before i = n + 1 - i
 
 loop-holds : tie.Need-loop-holds Inv-loop μ-loop
 unfolding firstOf tangentBefore
@@ -34,8 +34,8 @@ loop-holds c = (search needs, refl, front-empty _ _ 65, λ h. refl, search needs
 mul-after : tie.Need-mul-after Inv-loop μ-loop
 mul-after c = search needs
 
-array-read-after : tie.Need-array-read-after Inv-loop μ-loop
-array-read-after c = search needs
+element-copy-out-after : tie.Need-element-copy-out-after Inv-loop μ-loop
+element-copy-out-after c = search needs
 
 mul-distance : tie.Need-mul-distance Inv-loop μ-loop
 mul-distance c = search needs
@@ -48,29 +48,30 @@ cast-distance c = search needs
 
 mul-distance-2 : tie.Need-mul-distance-2 Inv-loop μ-loop
 mul-distance-2 c =
-    omega (arith, c .before .before .before .pre .0 .distance-most (c .before .before .loop .i) (c .before .loop-test .taken))
+    omega (arith, c .before .before .before .before .before .pre .0 .distance-most (c .before .before .before .loop .i) (c .before .before .loop-test .taken))
 
 add-ends : tie.Need-add-ends Inv-loop μ-loop
 add-ends c =
-    omega (arith, c .before .before .before .pre .1 .small (c .before .before .loop .i))
+    omega (arith, c .before .before .before .before .before .pre .1 .small (c .before .before .before .loop .i))
 
 add-if1 : tie.Need-add-if1 Inv-loop μ-loop
 add-if1 c =
-    omega (arith, c .before .before .before .pre .1 .small (c .before .before .loop .i))
+    omega (arith, c .before .before .before .before .before .pre .1 .small (c .before .before .before .loop .i))
 
-cast-t20 : tie.Need-cast-t20 Inv-loop μ-loop
-cast-t20 c = search needs
+cast-t21 : tie.Need-cast-t21 Inv-loop μ-loop
+cast-t21 c = search needs
 
 returns : tie.Need-returns Inv-loop μ-loop
 returns c =
-    let start = c .before .before .before .before in
-    let loop = c .before .before .before .loop in
+    let start = c .before .before .before .before .before .before in
+    let loop = c .before .before .before .before .loop in
     let line = start .args .t1 in
-    let here = c .before .before .loop-test .taken in
+    let here = c .before .before .before .loop-test .taken in
     let short = short-straight line (loop .i) (loop .inv .3 here) (after-distance line _ (start .pre .1) (loop .i) here) (c .if1 .taken) in
     record {
       outcome = sym (first-refused (straightCheck line) (loop .i) (suc (line .count)) (omega arith) (loop .inv .1) short);
       straights = λ e. not-both refl e;
+      arcs = refl;
     }
 
 sub-straights : tie.Need-sub-straights Inv-loop μ-loop
@@ -90,10 +91,10 @@ loop-less c = search needs
 
 loop-again : tie.Need-loop-again Inv-loop μ-loop
 loop-again c =
-    let start = c .before .before .before .before in
-    let loop = c .before .before .before .loop in
+    let start = c .before .before .before .before .before .before in
+    let loop = c .before .before .before .before .loop in
     let line = start .args .t1 in
-    let here = c .before .before .loop-test .taken in
+    let here = c .before .before .before .loop-test .taken in
     let before = loop .inv .3 here in
     let after = after-distance line _ (start .pre .1) (loop .i) here in (
       search needs,
@@ -106,30 +107,31 @@ loop-again c =
 
 returns-2 : tie.Need-returns-2 Inv-loop μ-loop
 returns-2 c =
-    let line = c .before .before .args .t1 in
+    let line = c .before .before .before .args .t1 in
     let loop = c .before .loop in
     let all : loop .i ≡ suc (line .count) = omega arith in
     record {
       outcome = sym (loop .inv .1) ∙ ap (firstOf (straightCheck line)) all;
       straights = λ e. subst (λ (i : ℕ). StraightsTo line i (loop .straights)) all (loop .inv .2);
+      arcs = refl;
     }
 
-pub straights-between-spec : {M : Type 1} → statement M
-straights-between-spec =
+pub with-straights-spec : {M : Type 1} → statement M
+with-straights-spec =
     tie.close
     (tie.spec
     Inv-loop
     μ-loop
     loop-holds
     mul-after
-    array-read-after
+    element-copy-out-after
     mul-distance
     element-copy-out-distance
     cast-distance
     mul-distance-2
     add-ends
     add-if1
-    cast-t20
+    cast-t21
     returns
     sub-straights
     mul-straights
