@@ -41,12 +41,11 @@ pub record Points : Type 0 where
 -- "TS = former ST .. + the straight; SC = TS + L; CS = SC + D; ST = CS + L"
 abbrev pub pointsFrom : ℤ → ℤ → ℤ → ℤ → Points
 pointsFrom former straight L D =
-    record {
-      TS = former +ℤ straight;
-      SC = former +ℤ straight +ℤ L;
-      CS = former +ℤ straight +ℤ L +ℤ D;
-      ST = former +ℤ straight +ℤ L +ℤ D +ℤ L;
-    }
+    let TS = former +ℤ straight in
+    let SC = TS +ℤ L in
+    let CS = SC +ℤ D in
+    let ST = CS +ℤ L in
+    record { TS = TS; SC = SC; CS = CS; ST = ST }
 
 -- The ST before distance i, "at first the start".
 unfoldable pub formerST : Line → ℕ → ℤ

@@ -1,10 +1,8 @@
 // The row of stations, in µm, at the front of the caller's numbers.
 ghost use mathlib.Core.Path.{_≡_};
-ghost use mathlib.Core.List.{_++_, map};
-ghost use Prim.Native.Nat.{suc, _+_, _*_, _≤_};
-ghost use lib.IntN.{natAbs};
+ghost use mathlib.Core.List.{_++_};
+ghost use Prim.Native.Nat.{suc, _+_, _≤_};
 ghost use lib.ListN.{length, take, drop};
-ghost use Rattle.refusals.specs.Outcomes.{passed};
 ghost use Rattle.refusals.specs.Filling.{fillReplyOf, countAfter, bufferAfter};
 ghost use Rattle.line.specs.Ranges.{LineInRange};
 ghost use Rattle.calculator.specs.Stations.{stationRow};

@@ -1,6 +1,6 @@
 // Document 01's working rule for one curve on machine numbers: angles and ratios at scale 10⁹, lengths in mm, elements in µm.
 ghost use mathlib.Core.Path.{_≡_};
-ghost use Prim.Native.Nat.{_+_, _*_, _/_, _<_, _≤_};
+ghost use Prim.Native.Nat.{_*_, _/_, _<_, _≤_};
 ghost use lib.IntN.{pos};
 ghost use Rattle.line.specs.Ranges.{CurveInRange};
 ghost use Rattle.elements.specs.WorkingRule.{scale, rounded, fullAngle, halfAngle, spiralAngle, unitX, unitY, arcOf, tanOf};

@@ -1,6 +1,6 @@
 // Sine and cosine of document 01's working rule: an angle and its ratio are whole numbers at scale 10⁹.
 ghost use mathlib.Core.Path.{_≡_};
-ghost use Prim.Native.Nat.{ℕ, _+_, _*_, _/_, _≤_};
+ghost use Prim.Native.Nat.{ℕ, _*_, _/_, _≤_};
 ghost use lib.IntN.{pos};
 ghost use Rattle.elements.specs.WorkingRule.{scale, term, alternating, sineOf, cosineOf};
 use crate::SCALE;
