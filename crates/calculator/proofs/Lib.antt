@@ -11,3 +11,4 @@ pub mod InOrder
 pub mod Unused
 pub mod FirstRefusal
 pub mod Examples
+pub mod Replies
