@@ -2,3 +2,4 @@
 pub mod Joining
 pub mod InTurn
 pub mod Numbers
+pub mod Filled
