@@ -50,23 +50,28 @@ pub data Reason (line : Line) (room n p : ℕ) : Type 0 where
   row : alignmentOutcome line ≡ passed → room < stationCount line → n ≡ 16 → p ≡ 0 → Reason line room n p
 
 module _ (line : Line) (room : ℕ) {n p : ℕ} where
-  by-curve : (i : ℕ) → BeforeCurve line i → curveCheck line i ≡ refused n p → Reason line room n p
-  unfolding curveCheck designOutcome arcOutcome arcAt
-  by-curve i b e = ⊎-elim first (λ q. ⊎-elim (second (q .0)) (third (q .0)) (refused-by (need (spiralServesAt line i) 13 (suc i)) _ (q .1))) (refused-by (need (radiusServesAt line i) 12 (suc i)) _ e)
-    where
-      first : need (radiusServesAt line i) 12 (suc i) ≡ refused n p → Reason line room n p
-      first q = let t = need-refused (radiusServesAt line i) 12 (suc i) q in radius i b (t .0) (t .1) (t .2)
+  -- 12, 13 and 14 of the curve at entry i.
+  module _ (i : ℕ) (b : BeforeCurve line i) where
+    by-radius : need (radiusServesAt line i) 12 (suc i) ≡ refused n p → Reason line room n p
+    by-radius e = let t = need-refused (radiusServesAt line i) 12 (suc i) e in radius i b (t .0) (t .1) (t .2)
 
-      second : need (radiusServesAt line i) 12 (suc i) ≡ passed → need (spiralServesAt line i) 13 (suc i) ≡ refused n p → Reason line room n p
-      second r q =
-          let t = need-refused (spiralServesAt line i) 13 (suc i) q in
-          spiral i b (need-holds (radiusServesAt line i) 12 (suc i) r) (t .0) (t .1) (t .2)
+    by-spiral : need (radiusServesAt line i) 12 (suc i) ≡ passed → need (spiralServesAt line i) 13 (suc i) ≡ refused n p → Reason line room n p
+    by-spiral r e =
+        let t = need-refused (spiralServesAt line i) 13 (suc i) e in
+        spiral i b (need-holds (radiusServesAt line i) 12 (suc i) r) (t .0) (t .1) (t .2)
 
-      third : need (radiusServesAt line i) 12 (suc i) ≡ passed
-          → (need (spiralServesAt line i) 13 (suc i) ≡ passed) × (need (leZ (pos 1000) (arcAt line i)) 14 (suc i) ≡ refused n p) → Reason line room n p
-      third r q =
-          let t = need-refused (leZ (pos 1000) (arcAt line i)) 14 (suc i) (q .1) in
-          arc i b (need-holds (radiusServesAt line i) 12 (suc i) r) (need-holds (spiralServesAt line i) 13 (suc i) (q .0)) (t .0) (t .1) (t .2)
+    by-arc : need (radiusServesAt line i) 12 (suc i) ≡ passed → need (spiralServesAt line i) 13 (suc i) ≡ passed
+        → need (leZ (pos 1000) (arcAt line i)) 14 (suc i) ≡ refused n p → Reason line room n p
+    by-arc r s e =
+        let t = need-refused (leZ (pos 1000) (arcAt line i)) 14 (suc i) e in
+        arc i b (need-holds (radiusServesAt line i) 12 (suc i) r) (need-holds (spiralServesAt line i) 13 (suc i) s) (t .0) (t .1) (t .2)
+
+    by-curve : curveCheck line i ≡ refused n p → Reason line room n p
+    unfolding curveCheck designOutcome arcOutcome arcAt
+    by-curve e =
+        ⊎-elim by-radius
+        (λ q. ⊎-elim (by-spiral (q .0)) (λ s. by-arc (q .0) (s .0) (s .1)) (refused-by (need (spiralServesAt line i) 13 (suc i)) _ (q .1)))
+        (refused-by (need (radiusServesAt line i) 12 (suc i)) _ e)
 
   by-straight : (i : ℕ) → BeforeStraight line i → straightCheck line i ≡ refused n p → Reason line room n p
   unfolding straightCheck

@@ -67,9 +67,11 @@ returns : tie.Need-returns Inv-loop μ-loop
 returns c =
     let start = c .before .before .before .before .before .before .before .before in
     let loop = c .before .before .before .before .before .before .before .loop in
+    let here = c .before .before .before .before .before .before .loop-test .taken in
+    let least = c .before .before .check-least in
     let told = c .enum-told2 .given .1 in
     record {
-      outcome = least-refused (start .args .t1) (loop .i) _ (c .before .before .check-least .ensures) (loop .inv .1) _ (c .before .before .before .before .before .before .loop-test .taken) told;
+      outcome = least-refused (start .args .t1) (loop .i) _ (least .ensures) (loop .inv .1) _ here told;
       tangents = λ e. not-both told e;
       arcs = λ e. not-both told e;
     }
@@ -87,12 +89,14 @@ returns-2 : tie.Need-returns-2 Inv-loop μ-loop
 returns-2 c =
     let start = c .before .before .before .before .before .before .before .before .before .before .before in
     let loop = c .before .before .before .before .before .before .before .before .before .before .loop in
-    let line = start .args .t1 in
+    let here = c .before .before .before .before .before .before .before .before .before .loop-test .taken in
+    let least = c .before .before .before .before .before .check-least in
+    let passes = c .before .before .before .enum-told .given .1 in
+    let refusal = c .enum-told3 .given in
+    let answer = ap replyOf (sym (refusal .1)) ∙ c .before .before .curve-elements .ensures in
+    let ok = start .pre .curve (loop .i) here in
     record {
-      outcome =
-          arc-refused line (loop .i) _ (c .before .before .before .before .before .check-least .ensures) (loop .inv .1) (c .before .before .before .enum-told .given .1) (c .enum-told3 .given .0 .0) _ (c .before .before .before .before .before .before .before .before .before .loop-test .taken)
-          (start .pre .curve (loop .i) (c .before .before .before .before .before .before .before .before .before .loop-test .taken))
-          (ap replyOf (sym (c .enum-told3 .given .1)) ∙ c .before .before .curve-elements .ensures);
+      outcome = arc-refused (start .args .t1) (loop .i) _ (least .ensures) (loop .inv .1) passes (refusal .0 .0) _ here ok answer;
       tangents = λ e. not-both refl e;
       arcs = λ e. not-both refl e;
     }
@@ -122,9 +126,12 @@ loop-again c =
     let loop = c .before .before .before .before .before .before .before .before .before .before .before .loop in
     let line = start .args .t1 in
     let curve = curveAt line (loop .i) in
-    let found = found-elements (curve .deflection) (curve .radius) (curve .spiral) _ (ap replyOf (sym (c .before .answer .given .1)) ∙ c .before .before .before .curve-elements .ensures) in (
+    let least = c .before .before .before .before .before .before .check-least in
+    let passes = c .before .before .before .before .enum-told .given .1 in
+    let answer = ap replyOf (sym (c .before .answer .given .1)) ∙ c .before .before .before .curve-elements .ensures in
+    let found = found-elements (curve .deflection) (curve .radius) (curve .spiral) _ answer in (
       search needs,
-      curve-passed line (loop .i) _ (c .before .before .before .before .before .before .check-least .ensures) (loop .inv .1) (c .before .before .before .before .enum-told .given .1) found,
+      curve-passed line (loop .i) _ (least .ensures) (loop .inv .1) passes found,
       front-more (loop .i) _ (loop .inv .2) (search needs) (found .TT) (found .TT-most),
       front-more (loop .i) _ (loop .inv .3) (search needs) (found .D) (found .D-most),
     )

@@ -97,12 +97,17 @@ loop-again c =
     let stored = c .before .before .store-curve in
     let line = start .args .t1 in
     let straight = start .pre .1 .0 .0 .used (loop .i) (omega (arith, here)) in
-    let arc = start .pre .1 .0 .1 .used (loop .i) here in (
+    let arc = start .pre .1 .0 .1 .used (loop .i) here in
+    let straight-most = start .pre .1 .0 .0 .small (loop .i) in
+    let arc-most = start .pre .1 .0 .1 .small (loop .i) in
+    let spiral-most = start .pre .0 .curve (loop .i) here .L-most in
+    let room = start .pre .1 .1 in (
       search needs,
       stored .kept .0 ∙ loop .inv .1,
       next-ST line (loop .i) (loop .inv .2) straight refl arc (stored .ensures .0),
-      omega (arith, stored .ensures .0, loop .inv .3, start .pre .1 .0 .0 .small (loop .i), start .pre .1 .0 .1 .small (loop .i), start .pre .0 .curve (loop .i) here .L-most),
-      curve-stored line (loop .i) (loop .inv .2) straight refl arc (start .args .row .now) (loop .row) _ (omega (arith, start .pre .1 .1, here)) (loop .inv .4) (stored .ensures .1),
+      omega (arith, stored .ensures .0, loop .inv .3, straight-most, arc-most, spiral-most),
+      curve-stored line (loop .i) (loop .inv .2) straight refl arc (start .args .row .now) (loop .row) _ (omega (arith, room, here))
+          (loop .inv .4) (stored .ensures .1),
     )
 
 mul-row : tie.Need-mul-row Inv-loop μ-loop
