@@ -1,4 +1,4 @@
--- Document 01's cases 1 to 5, from the definitions. Assumes nothing.
+-- Document 01's cases 1 to 5, and 12 to 14 curve by curve, from the definitions. Assumes nothing.
 use mathlib.Core.Path.{_≡_, refl}
 use mathlib.Core.Bool.{true, false}
 use mathlib.Core.List.{List, [], _∷_}
@@ -16,6 +16,9 @@ use Rattle.calculator.specs.RoadTables.{underSpeed, frictionAt, leastSpi
 use Rattle.calculator.specs.Stations.{spiralAt, arcAt, tangentAt, tangentBefore, tangentAfter, straightAt, formerST, pointsAt, endOf, curveStations, stationsOf, stationRow}
 use Rattle.calculator.specs.Answer.{designOutcome, curveCheck, straightCheck, alignmentOutcome, roomCheck, stationsOutcome, stationsAnswer, stationsRow}
 
+abbrev curve : ℕ → ℕ → ℕ → Curve
+curve A R L = record { left = false; deflection = A; radius = R; spiral = L }
+
 -- V 70, e 8, start 0, second distance 400,000 and A 177,764 right; the first distance, R and L differ by case.
 abbrev lineOf : (distance R L : ℕ) → Line
 lineOf distance R L =
@@ -27,9 +30,18 @@ lineOf distance R L =
       distances = distance ∷ 400000 ∷ replicate 63 0;
       curves = curve 177764 R L ∷ replicate 63 (curve 0 0 0);
     }
-  where
-    curve : ℕ → ℕ → ℕ → Curve
-    curve A R L = record { left = false; deflection = A; radius = R; spiral = L }
+
+-- Two curves with a fault each: the spiral of the first is too short, and the radius of the second too small.
+abbrev twoFaults : Line
+twoFaults =
+    record {
+      speed = 70;
+      crossfall = 8;
+      start = 0;
+      count = 2;
+      distances = 500000 ∷ 500000 ∷ 500000 ∷ replicate 62 0;
+      curves = curve 177764 350000 39999 ∷ curve 177764 167750 0 ∷ replicate 62 (curve 0 0 0);
+    }
 
 -- A row with two numbers more than there are stations.
 abbrev row : List ℕ
@@ -48,6 +60,7 @@ pub record Examples : Type 0 where
   pub case-5 : radiusServes 70 8 167751 ≡ true
   pub case-5-accepted : stationsAnswer (lineOf 500000 167751 0) 5 ≡ filled 5
   pub case-5-refused : stationsAnswer (lineOf 500000 167750 0) 5 ≡ unfilled 12 1
+  pub curve-by-curve : stationsAnswer twoFaults 9 ≡ unfilled 13 1
 
 pub examples : Examples
 unfolding firstOf startOutcome headOutcome distanceOutcome curveOutcome bodyOutcome lineOutcome rounded fullAngle halfAngle spiralAngle term alternating sineOf cosineOf t2 t3 t4 unitX unitY spiralX spiralY centreOf shiftOf arcOf tanOf tangentOf arcOutcome underSpeed frictionAt leastSpiralAt radiusServes spiralServes spiralAt arcAt tangentAt tangentBefore tangentAfter straightAt formerST pointsAt endOf curveStations stationsOf stationRow designOutcome curveCheck straightCheck alignmentOutcome roomCheck stationsOutcome stationsAnswer stationsRow
@@ -64,4 +77,5 @@ examples =
       case-5 = refl;
       case-5-accepted = refl;
       case-5-refused = refl;
+      curve-by-curve = refl;
     }

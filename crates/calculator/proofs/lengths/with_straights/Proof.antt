@@ -48,7 +48,7 @@ cast-distance c = search needs
 
 mul-distance-2 : tie.Need-mul-distance-2 Inv-loop μ-loop
 mul-distance-2 c =
-    omega (arith, c .before .before .before .before .before .pre .0 .distance-most (c .before .before .before .loop .i) (c .before .before .loop-test .taken))
+    omega (arith, c .before .before .before .before .before .pre .0 .distance-most (c .before .before .before .loop .i) (omega (arith, c .before .before .loop-test .taken)))
 
 add-ends : tie.Need-add-ends Inv-loop μ-loop
 add-ends c =
@@ -66,7 +66,7 @@ returns c =
     let start = c .before .before .before .before .before .before in
     let loop = c .before .before .before .before .loop in
     let line = start .args .t1 in
-    let here = c .before .before .before .loop-test .taken in
+    let here : loop .i ≤ line .count = omega (arith, c .before .before .before .loop-test .taken) in
     let short = short-straight line (loop .i) (loop .inv .3 here) (after-distance line _ (start .pre .1) (loop .i) here) (c .if1 .taken) in
     record {
       outcome = sym (first-refused (straightCheck line) (loop .i) (suc (line .count)) (omega arith) (loop .inv .1) short);
@@ -94,7 +94,7 @@ loop-again c =
     let start = c .before .before .before .before .before .before in
     let loop = c .before .before .before .before .loop in
     let line = start .args .t1 in
-    let here = c .before .before .before .loop-test .taken in
+    let here : loop .i ≤ line .count = omega (arith, c .before .before .before .loop-test .taken) in
     let before = loop .inv .3 here in
     let after = after-distance line _ (start .pre .1) (loop .i) here in (
       search needs,
