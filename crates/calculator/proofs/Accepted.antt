@@ -1,30 +1,26 @@
 -- What holds of a line that passes the calculator's checks 3 to 15: its fields are in range, and so are its tangents, arcs and straights.
 -- Assumes nothing.
-use mathlib.Core.Path.{_≡_, sym, _∙_, ap}
-use mathlib.Core.Bool.{Bool, true}
+use mathlib.Core.Path.{_≡_, sym, _∙_}
 use Prim.Native.Nat.{ℕ, zero, suc, _+_, _-_, _*_, _<_, _≤_}
 use native.Mathlib.Decide.{decLt}
 use native.Mathlib.Omega.{arith}
-use lib.IntN.{pos}
-use lib.Signed.{leZ}
-use borrow.Author.Tests.{lt-ltb, le-ltb, leb-true}
+use borrow.Author.Tests.{leb-true}
 use Rattle.numbers.specs.Whole.{Between}
 use Rattle.numbers.proofs.Ranges.{natural}
 use Rattle.refusals.specs.Outcomes.{passed, need, firstOf}
-use Rattle.refusals.proofs.Joining.{passed-left, passed-right, need-holds}
+use Rattle.refusals.proofs.Joining.{passed-left, passed-right, need-holds, join}
 use Rattle.refusals.proofs.InTurn.{each-passes}
 use Rattle.line.specs.declared.Line.{Line}
 use Rattle.line.specs.Checks.{distanceAt, curveAt, lineOutcome}
 use Rattle.line.specs.Ranges.{LineInRange}
 use Rattle.line.proofs.InRange.{line-in-range, curve-passes}
-use Rattle.elements.specs.WorkingRule.{arcOf}
 use Rattle.elements.specs.Answer.{arcOutcome, elementOutcome}
 use Rattle.elements.proofs.Bounds.{bounds}
-use Rattle.elements.proofs.Arc.{arc-answered}
+use Rattle.elements.proofs.Arc.{arc-anywhere, arc-answered}
 use Rattle.calculator.specs.RoadTables.{radiusServes, spiralServes}
 use Rattle.calculator.specs.Stations.{arcAt, tangentAt, tangentBefore, tangentAfter, straightAt}
 use Rattle.calculator.specs.Answer.{designOutcome, curveCheck, straightCheck, alignmentOutcome}
-use Rattle.calculator.proofs.StraightSteps.{straight-reaches, straight-length}
+use Rattle.calculator.proofs.StraightSteps.{after-inside, after-end, straight-reaches, straight-length}
 
 pub record Accepted (line : Line) : Type 0 where
   pub in-range : LineInRange line
@@ -39,18 +35,17 @@ module _ (line : Line) (ok : LineInRange line) where
   unfolding tangentAt
   tangent-between i h = bounds _ _ _ (ok .curve i h) .TT
 
-  before-between : (i : ℕ) → i ≤ line .count → Between (tangentBefore line i) 0 12300000000
+  pub before-between : (i : ℕ) → i ≤ line .count → Between (tangentBefore line i) 0 12300000000
   unfolding tangentBefore
   before-between zero h = natural 0 (omega arith) (omega arith)
   before-between (suc i) h = tangent-between i h
 
-  after-between : (i : ℕ) → Between (tangentAfter line i) 0 12300000000
-  unfolding tangentAfter
+  pub after-between : (i : ℕ) → Between (tangentAfter line i) 0 12300000000
   after-between i = go (decLt i (line .count))
     where
       go : Dec (i < line .count) → Between (tangentAfter line i) 0 12300000000
-      go (yes h) = rw (lt-ltb i (line .count) h) (tangent-between i h)
-      go (no h) = rw (le-ltb i (line .count) (omega arith)) (natural 0 (omega arith) (omega arith))
+      go (yes h) = rw (after-inside line i h) (tangent-between i h)
+      go (no h) = rw (after-end line i (omega arith)) (natural 0 (omega arith) (omega arith))
 
   -- ---- a straight that passes 15, and an arc that passes 14
 
@@ -69,7 +64,7 @@ module _ (line : Line) (ok : LineInRange line) where
       }
 
   arc-between : (i : ℕ) → i < line .count → curveCheck line i ≡ passed → Between (arcAt line i) 1000 10471975510
-  unfolding arcAt curveCheck designOutcome elementOutcome arcOutcome
+  unfolding arcAt curveCheck designOutcome elementOutcome
   arc-between i h e =
       let c = curveAt line i in
       let A = c .deflection in
@@ -77,9 +72,8 @@ module _ (line : Line) (ok : LineInRange line) where
       let L = c .spiral in
       let radius = need (radiusServes (line .speed) (line .crossfall) R) 12 (suc i) in
       let spiral = need (spiralServes (line .speed) R L) 13 (suc i) in
-      let arc : leZ (pos 1000) (arcOf A R L) ≡ true = need-holds _ 14 (suc i) (passed-right spiral _ (passed-right radius _ e)) in
-      arc-answered A R L
-      (rw (curve-passes A R L 0 (ok .curve i h)) (ap (λ (t : Bool). need t 14 0) arc))
+      let arc : arcOutcome A R L (suc i) ≡ passed = passed-right spiral _ (passed-right radius _ e) in
+      arc-answered A R L (join (curve-passes A R L 0 (ok .curve i h)) (arc-anywhere A R L (suc i) 0 arc))
 
 pub accepted : (line : Line) → alignmentOutcome line ≡ passed → Accepted line
 unfolding alignmentOutcome
@@ -94,3 +88,7 @@ accepted line e =
       arc = λ i h. arc-between line ok i h (each-passes (curveCheck line) (line .count) curves i h);
       straight = λ i h. straight-between line ok i h (each-passes (straightCheck line) (suc (line .count)) straights i (omega arith));
     }
+
+-- There are 64 curves at the most.
+pub few : (line : Line) → alignmentOutcome line ≡ passed → line .count ≤ 64
+few line e = accepted line e .in-range .few

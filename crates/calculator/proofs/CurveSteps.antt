@@ -1,24 +1,21 @@
 -- One curve more: what its checks and its elements say of the line's. Assumes nothing.
 use mathlib.Core.Path.{_≡_, refl, sym, _∙_, ap}
-use mathlib.Core.Bool.{Bool}
 use Prim.Native.Nat.{ℕ, _+_, _<_}
 use native.Mathlib.Numerals.{add-one}
-use lib.IntN.{pos}
-use lib.Signed.{leZ}
 use Rattle.refusals.specs.declared.Refusal.{Refusal}
 use Rattle.refusals.specs.declared.Verdict.{Verdict}
 use Rattle.refusals.specs.declared.Verdict.the-variants.{Pass, Refused}
 use Rattle.refusals.specs.Table.{numberOf, placeOf}
 use Rattle.refusals.specs.Outcomes.{Outcome, passed, refused, outcomeOf, need, _▹_, firstOf}
-use Rattle.refusals.proofs.Joining.{passed-right, need-holds, regroup, join}
+use Rattle.refusals.proofs.Joining.{passed-right, regroup, join}
 use Rattle.refusals.proofs.InTurn.{one-more, first-refused}
 use Rattle.line.specs.declared.Line.{Line}
 use Rattle.line.specs.Checks.{curveAt, curveOutcome}
 use Rattle.line.specs.Ranges.{CurveInRange}
 use Rattle.elements.specs.declared.Elements.{Elements}
 use Rattle.elements.specs.declared.ElementAnswer.the-variants as ElementAnswer
-use Rattle.elements.specs.WorkingRule.{arcOf}
 use Rattle.elements.specs.Answer.{replyOf, arcOutcome, elementOutcome, elementReply}
+use Rattle.elements.proofs.Arc.{arc-anywhere}
 use Rattle.elements.proofs.Replies.{FoundElements, refused-arc}
 use Rattle.calculator.specs.RoadTables.{radiusServes, spiralServes}
 use Rattle.calculator.specs.Answer.{designOutcome, curveCheck}
@@ -31,9 +28,8 @@ leastCheck line i place =
 
 -- A curve whose elements are found passes 14 at any place.
 found-arc : (A R L place : ℕ) → elementOutcome A R L ≡ passed → arcOutcome A R L place ≡ passed
-unfolding elementOutcome arcOutcome
-found-arc A R L place e =
-    ap (λ (t : Bool). need t 14 place) (need-holds (leZ (pos 1000) (arcOf A R L)) 14 0 (passed-right (curveOutcome A R L 0) (arcOutcome A R L 0) e))
+unfolding elementOutcome
+found-arc A R L place e = arc-anywhere A R L 0 place (passed-right (curveOutcome A R L 0) (arcOutcome A R L 0) e)
 
 module _ (line : Line) (i : ℕ) (v : Verdict) (least : outcomeOf v ≡ leastCheck line i (i + 1)) (so-far : firstOf (curveCheck line) i ≡ passed) where
   -- The curve's checks: 12 and 13, then 14.

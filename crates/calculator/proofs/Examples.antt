@@ -16,6 +16,7 @@ use Rattle.calculator.specs.RoadTables.{underSpeed, frictionAt, leastSpi
 use Rattle.calculator.specs.Stations.{spiralAt, arcAt, tangentAt, tangentBefore, tangentAfter, straightAt, formerST, pointsAt, endOf, curveStations, stationsOf, stationRow}
 use Rattle.calculator.specs.Answer.{designOutcome, curveCheck, straightCheck, alignmentOutcome, roomCheck, stationsOutcome, stationsAnswer, stationsRow}
 
+-- A curve to the right.
 abbrev curve : ℕ → ℕ → ℕ → Curve
 curve A R L = record { left = false; deflection = A; radius = R; spiral = L }
 

@@ -1,7 +1,7 @@
 -- An array that is filled entry by entry. Assumes nothing.
 use mathlib.Core.Path.{_≡_, _∙_, ap}
 use mathlib.Core.List.{List}
-use Prim.Native.Nat.{ℕ, _+_, _<_, _≤_}
+use Prim.Native.Nat.{ℕ, _+_, _<_}
 use native.Mathlib.Decide.{ℕ-discrete, decLt}
 use native.Mathlib.Omega.{arith}
 use lib.IntN.{ℤ, pos}
@@ -17,24 +17,22 @@ zeros size k = go (decLt k size)
     go (no h) = List·getD-eq-default (replicate size 0) 0 (omega (arith, length-replicate {A = ℕ} size 0))
 
 -- Nothing is filled yet.
-pub front-empty : (f : ℕ → ℤ) (most size : ℕ) → Front f most size 0 (replicate size 0)
-front-empty f most size =
+pub front-empty : (f : ℕ → ℤ) (size : ℕ) → Front f size 0 (replicate size 0)
+front-empty f size =
     record {
       sized = length-replicate size 0;
       used = λ k h. absurd (omega arith);
       unused = λ k h. zeros size k;
-      small = λ k. omega (arith, zeros size k);
     }
 
 -- One entry more.
-pub front-more : {f : ℕ → ℤ} {most size : ℕ} {xs : List ℕ} (i v : ℕ) → Front f most size i xs → i < size → pos v ≡ f i → v ≤ most
-    → Front f most size (i + 1) (set xs i v)
-front-more {f} {most} {size} {xs} i v front below e small =
+pub front-more : {f : ℕ → ℤ} {size : ℕ} {xs : List ℕ} (i v : ℕ) → Front f size i xs → i < size → pos v ≡ f i
+    → Front f size (i + 1) (set xs i v)
+front-more {f} {size} {xs} i v front below e =
     record {
       sized = length-set xs i v ∙ front .sized;
       used = λ k h. used k h (ℕ-discrete k i);
       unused = λ k h. getD-set-other xs i k v 0 (λ q. absurd (omega arith)) ∙ front .unused k (omega arith);
-      small = λ k. least k (ℕ-discrete k i);
     }
   where
     fits : i < length xs
@@ -43,7 +41,3 @@ front-more {f} {most} {size} {xs} i v front below e small =
     used : (k : ℕ) → k < i + 1 → Dec (k ≡ i) → pos (getD (set xs i v) k 0) ≡ f k
     used k h (yes q) = rw q (ap pos (getD-set-same xs i v 0 fits) ∙ e)
     used k h (no q) = ap pos (getD-set-other xs i k v 0 q) ∙ front .used k (omega arith)
-
-    least : (k : ℕ) → Dec (k ≡ i) → getD (set xs i v) k 0 ≤ most
-    least k (yes q) = rw (q, getD-set-same xs i v 0 fits) small
-    least k (no q) = rw (getD-set-other xs i k v 0 q) (front .small k)

@@ -14,18 +14,27 @@ use Rattle.numbers.proofs.Differences.{minus-le, minus-minus, reaches}
 use Rattle.refusals.specs.Outcomes.{passed, refused}
 use Rattle.line.specs.declared.Line.{Line}
 use Rattle.line.specs.Checks.{distanceAt}
-use Rattle.calculator.specs.Stations.{tangentBefore, tangentAfter, straightAt}
+use Rattle.calculator.specs.Stations.{tangentAt, tangentBefore, tangentAfter, straightAt}
 use Rattle.calculator.specs.Answer.{straightCheck}
 use Rattle.calculator.specs.Lengths.{TangentsTo}
 
+-- The tangent after distance i, by cases.
+module _ (line : Line) (i : ℕ) where
+  pub after-inside : i < line .count → tangentAfter line i ≡ tangentAt line i
+  unfolding tangentAfter
+  after-inside h = rw (lt-ltb i (line .count) h)
+
+  pub after-end : line .count ≤ i → tangentAfter line i ≡ pos 0
+  unfolding tangentAfter
+  after-end h = rw (le-ltb i (line .count) h)
+
 module _ (line : Line) (tangents : List ℕ) (all : TangentsTo line (line .count) tangents) where
   pub after-distance : (i : ℕ) → i ≤ line .count → pos (getD tangents i 0) ≡ tangentAfter line i
-  unfolding tangentAfter
   after-distance i h = go (decLt i (line .count))
     where
       go : Dec (i < line .count) → pos (getD tangents i 0) ≡ tangentAfter line i
-      go (yes k) = rw (lt-ltb i (line .count) k) (all .used i k)
-      go (no k) = rw (le-ltb i (line .count) (omega arith)) (ap pos (all .unused i (omega arith)))
+      go (yes k) = all .used i k ∙ sym (after-inside line i k)
+      go (no k) = ap pos (all .unused i (omega arith)) ∙ sym (after-end line i (omega arith))
 
   pub before-next : (i : ℕ) → i + 1 ≤ line .count → pos (getD tangents i 0) ≡ tangentBefore line (i + 1)
   unfolding tangentBefore

@@ -1,20 +1,19 @@
 -- The calculator reads no unused entry and no side: lines that are alike where they are used have the same answer and the same row. Assumes
 -- nothing.
-use mathlib.Core.Path.{_≡_, refl, _∙_, ap}
-use mathlib.Core.Bool.{cond}
+use mathlib.Core.Path.{_≡_, refl, sym, _∙_, ap}
 use mathlib.Core.List.{List, [], _∷_, _++_, map}
 use Prim.Native.Nat.{ℕ, zero, suc, _+_, _*_, _<_, _≤_}
 use native.Mathlib.Decide.{decLt}
 use native.Mathlib.Omega.{arith}
-use lib.Dec.{leb, ltb}
-use lib.IntN.{pos, natAbs, _+ℤ_}
+use lib.Dec.{leb}
+use lib.IntN.{natAbs, _+ℤ_}
 use lib.ListN.{length}
-use borrow.Author.Tests.{le-ltb}
 use Rattle.refusals.specs.Outcomes.{need, _▹_, firstOf}
 use Rattle.refusals.proofs.InTurn.{alike-in-turn}
 use Rattle.line.specs.declared.Line.{Line}
 use Rattle.line.specs.Ranges.{AlikeWhereUsed}
 use Rattle.line.proofs.Unused.{unused-ignored}
+use Rattle.calculator.proofs.StraightSteps.{after-inside, after-end}
 use Rattle.calculator.specs.Stations.{spiralAt, arcAt, tangentAt, tangentBefore, tangentAfter, straightAt, pointsAt, formerST, endOf, curveStations, stationsOf, stationRow}
 use Rattle.calculator.specs.Answer.{curveCheck, straightCheck, alignmentOutcome, roomCheck, stationsOutcome, stationsAnswer, stationsRow}
 
@@ -45,12 +44,11 @@ module _ (l m : Line) (alike : AlikeWhereUsed l m) where
   same-before (suc i) h = same-tangent i h
 
   same-after : (i : ℕ) → tangentAfter l i ≡ tangentAfter m i
-  unfolding tangentAfter
   same-after i = go (decLt i (l .count))
     where
       go : Dec (i < l .count) → tangentAfter l i ≡ tangentAfter m i
-      go (yes h) = λ j. cond (ltb i (alike .count j)) (same-tangent i h j) (pos 0)
-      go (no h) = rw (le-ltb i (l .count) (omega arith), le-ltb i (m .count) (omega (arith, alike .count)))
+      go (yes h) = after-inside l i h ∙ same-tangent i h ∙ sym (after-inside m i (omega (arith, alike .count)))
+      go (no h) = after-end l i (omega arith) ∙ sym (after-end m i (omega (arith, alike .count)))
 
   same-straight : (i : ℕ) → i ≤ l .count → straightAt l i ≡ straightAt m i
   unfolding straightAt

@@ -12,22 +12,21 @@ use Rattle.calculator.specs.declared.lengths.Lengths.{Lengths}
 use Rattle.calculator.specs.Stations.{arcAt, tangentAt, straightAt}
 use Rattle.calculator.specs.Answer.{curveCheck, straightCheck, alignmentOutcome}
 
--- The first i entries of an array are what f gives, the others 0, and none is above `most`.
-pub record Front (f : ℕ → ℤ) (most size i : ℕ) (xs : List ℕ) : Type 0 where
+-- The first i entries of an array are what f gives, the others 0.
+pub record Front (f : ℕ → ℤ) (size i : ℕ) (xs : List ℕ) : Type 0 where
   pub sized : length xs ≡ size
   pub used : (k : ℕ) → k < i → pos (getD xs k 0) ≡ f k
   pub unused : (k : ℕ) → i ≤ k → getD xs k 0 ≡ 0
-  pub small : (k : ℕ) → getD xs k 0 ≤ most
 
 -- Tangents, arcs and straights of the first i entries of a line, in µm.
 abbrev pub TangentsTo : Line → ℕ → List ℕ → Type 0
-TangentsTo line = Front (tangentAt line) 12300000000 65
+TangentsTo line = Front (tangentAt line) 65
 
 abbrev pub ArcsTo : Line → ℕ → List ℕ → Type 0
-ArcsTo line = Front (arcAt line) 10471975510 64
+ArcsTo line = Front (arcAt line) 64
 
 abbrev pub StraightsTo : Line → ℕ → List ℕ → Type 0
-StraightsTo line = Front (straightAt line) 20000000000 65
+StraightsTo line = Front (straightAt line) 65
 
 -- 12 to 14, and where they pass the tangents and the arcs.
 pub record CurvesOf (line : Line) (c : CurveLengths) : Type 0 where

@@ -3,10 +3,10 @@ ghost use mathlib.Core.Path.{_≡_};
 ghost use mathlib.Core.List.{_++_};
 ghost use Prim.Native.Nat.{suc, _+_, _≤_};
 ghost use lib.ListN.{length, take, drop};
+ghost use Rattle.refusals.specs.Outcomes.{passed};
 ghost use Rattle.refusals.specs.Filling.{fillReplyOf, countAfter, bufferAfter};
-ghost use Rattle.line.specs.Ranges.{LineInRange};
 ghost use Rattle.calculator.specs.Stations.{stationRow};
-ghost use Rattle.calculator.specs.Answer.{stationCount, stationsAnswer, stationsRow, roomCheck};
+ghost use Rattle.calculator.specs.Answer.{alignmentOutcome, stationCount, stationsAnswer, stationsRow, roomCheck};
 ghost use Rattle.calculator.specs.Lengths.{StraightsTo, ArcsTo, fourFrom};
 use crate::lengths::Lengths;
 use crate::lengths::lengths_of;
@@ -35,7 +35,7 @@ fn store_curve(row: &mut [u64], at: usize, former: u64, straight: u64, spiral: u
 
 // The stations of a line from its lengths.
 fn write_row(line: Line, lengths: Lengths, row: &mut [u64])
-    requires { ⌜ LineInRange line ⌝ }
+    requires { ⌜ alignmentOutcome line ≡ passed ⌝ }
     requires { ⌜ StraightsTo line (suc (line .count)) (lengths .straights) × ArcsTo line (line .count) (lengths .arcs) ⌝ }
     requires { ⌜ stationCount line ≤ length (now row) ⌝ }
     ensures { λ _. ⌜ now (row .exit) ≡ stationRow line ++ drop (stationCount line) (now (row .entry)) ⌝ }
@@ -60,7 +60,7 @@ fn write_row(line: Line, lengths: Lengths, row: &mut [u64])
 
 // Refusal 16, or the row of a line whose lengths are known.
 fn fill(line: Line, lengths: Lengths, row: &mut [u64]) -> FillAnswer
-    requires { ⌜ LineInRange line ⌝ }
+    requires { ⌜ alignmentOutcome line ≡ passed ⌝ }
     requires { ⌜ StraightsTo line (suc (line .count)) (lengths .straights) × ArcsTo line (line .count) (lengths .arcs) ⌝ }
     ensures { λ a. ⌜ fillReplyOf a ≡ countAfter (roomCheck line (length (now (row .entry)))) (stationCount line) ⌝ }
     ensures { λ _. ⌜ now (row .exit) ≡ bufferAfter (roomCheck line (length (now (row .entry)))) (stationRow line) (now (row .entry)) ⌝ }

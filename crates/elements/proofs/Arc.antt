@@ -1,6 +1,7 @@
 -- The arc D and refusal 14: D reaches 1,000 exactly where the turn, the arc with its spirals, reaches the spirals and 1,000. So an arc that
 -- is answered is 1,000 µm at least. Assumes nothing.
 use mathlib.Core.Path.{_≡_, refl, sym, _∙_, ap}
+use mathlib.Core.Bool.{Bool}
 use Prim.Native.Nat.{ℕ, _+_, _-_, _*_, _≤_, _<_}
 use native.Mathlib.Omega.{arith}
 use lib.Dec.{leb}
@@ -9,7 +10,7 @@ use lib.Signed.{leZ}
 use borrow.Author.Tests.{lt-leb, le-leb, leb-true}
 use Rattle.numbers.specs.Whole.{Between}
 use Rattle.numbers.proofs.Differences.{minus-le, reaches}
-use Rattle.refusals.specs.Outcomes.{passed, refused}
+use Rattle.refusals.specs.Outcomes.{passed, refused, need}
 use Rattle.refusals.proofs.Joining.{passed-left, passed-right, need-holds}
 use Rattle.line.specs.Checks.{curveOutcome}
 use Rattle.line.proofs.InRange.{curve-in-range}
@@ -35,6 +36,11 @@ module _ (A R L : ℕ) {turn full : ℕ} (ef : full ≡ fullAngle A) (e : pos tu
   pub long-arc : (place : ℕ) → 1000 * L + 1000 ≤ turn → arcOutcome A R L place ≡ passed
   unfolding arcOutcome
   long-arc place h = rw (arc-reaches, le-leb _ _ h)
+
+-- An arc that passes 14 at one place passes it at every place.
+pub arc-anywhere : (A R L p q : ℕ) → arcOutcome A R L p ≡ passed → arcOutcome A R L q ≡ passed
+unfolding arcOutcome
+arc-anywhere A R L p q e = ap (λ (t : Bool). need t 14 q) (need-holds (leZ (pos 1000) (arcOf A R L)) 14 p e)
 
 -- D is 1,000 µm at least where the elements are answered.
 pub arc-answered : (A R L : ℕ) → elementOutcome A R L ≡ passed → Between (arcOf A R L) 1000 10471975510

@@ -31,7 +31,7 @@ cast-crossfall c = search needs
 
 loop-holds : tie.Need-loop-holds Inv-loop μ-loop
 unfolding firstOf
-loop-holds c = (search needs, refl, front-empty _ _ 65, front-empty _ _ 64)
+loop-holds c = (search needs, refl, front-empty _ 65, front-empty _ 64)
 
 mul-curve : tie.Need-mul-curve Inv-loop μ-loop
 mul-curve c = search needs
@@ -132,8 +132,8 @@ loop-again c =
     let found = found-elements (curve .deflection) (curve .radius) (curve .spiral) _ answer in (
       search needs,
       curve-passed line (loop .i) _ (least .ensures) (loop .inv .1) passes found,
-      front-more (loop .i) _ (loop .inv .2) (search needs) (found .TT) (found .TT-most),
-      front-more (loop .i) _ (loop .inv .3) (search needs) (found .D) (found .D-most),
+      front-more (loop .i) _ (loop .inv .2) (search needs) (found .TT),
+      front-more (loop .i) _ (loop .inv .3) (search needs) (found .D),
     )
 
 returns-3 : tie.Need-returns-3 Inv-loop μ-loop

@@ -5,12 +5,14 @@ use Prim.Native.Nat.{ℕ, suc, _+_, _-_, _≤_}
 use native.Mathlib.Omega.{arith}
 use lib.IntN.{pos}
 use borrow.Author.Needs.{needs}
+use Rattle.numbers.proofs.Ranges.{at-most}
 use Rattle.refusals.specs.Outcomes.{passed, firstOf}
 use Rattle.refusals.proofs.Joining.{not-both}
 use Rattle.refusals.proofs.InTurn.{one-more, first-refused}
 use Rattle.calculator.specs.Stations.{tangentBefore}
 use Rattle.calculator.specs.Answer.{straightCheck}
 use Rattle.calculator.specs.Lengths.{StraightsTo}
+use Rattle.calculator.proofs.Accepted.{before-between, after-between}
 use Rattle.calculator.proofs.Fronts.{front-empty, front-more}
 use Rattle.calculator.proofs.StraightSteps.{after-distance, before-next, short-straight, long-straight, straight-length}
 use Rattle.calculator.proofs.lengths.with_straights.Statement.{statement}
@@ -22,14 +24,13 @@ Inv-loop line curves n arcs straights₀ before₀ i₀ straights before i =
     × (firstOf (straightCheck line) i ≡ passed)
     × StraightsTo line i straights
     × (i ≤ n → pos before ≡ tangentBefore line i)
-    × (before ≤ 12300000000)
 
 abbrev μ-loop : tie.MeasureT-loop
 μ-loop line curves n arcs straights₀ before₀ i₀ straights before i = n + 1 - i
 
 loop-holds : tie.Need-loop-holds Inv-loop μ-loop
 unfolding firstOf tangentBefore
-loop-holds c = (search needs, refl, front-empty _ _ 65, λ h. refl, search needs)
+loop-holds c = (search needs, refl, front-empty _ 65, λ h. refl)
 
 mul-after : tie.Need-mul-after Inv-loop μ-loop
 mul-after c = search needs
@@ -52,11 +53,23 @@ mul-distance-2 c =
 
 add-ends : tie.Need-add-ends Inv-loop μ-loop
 add-ends c =
-    omega (arith, c .before .before .before .before .before .pre .1 .small (c .before .before .before .loop .i))
+    let start = c .before .before .before .before .before in
+    let loop = c .before .before .before .loop in
+    let line = start .args .t1 in
+    let here : loop .i ≤ line .count = omega (arith, c .before .before .loop-test .taken) in
+    let before = at-most (loop .inv .3 here) (before-between line (start .pre .0) (loop .i) here) in
+    let after = at-most (after-distance line _ (start .pre .1) (loop .i) here) (after-between line (start .pre .0) (loop .i)) in
+    omega (arith, before, after)
 
 add-if1 : tie.Need-add-if1 Inv-loop μ-loop
 add-if1 c =
-    omega (arith, c .before .before .before .before .before .pre .1 .small (c .before .before .before .loop .i))
+    let start = c .before .before .before .before .before in
+    let loop = c .before .before .before .loop in
+    let line = start .args .t1 in
+    let here : loop .i ≤ line .count = omega (arith, c .before .before .loop-test .taken) in
+    let before = at-most (loop .inv .3 here) (before-between line (start .pre .0) (loop .i) here) in
+    let after = at-most (after-distance line _ (start .pre .1) (loop .i) here) (after-between line (start .pre .0) (loop .i)) in
+    omega (arith, before, after)
 
 cast-t21 : tie.Need-cast-t21 Inv-loop μ-loop
 cast-t21 c = search needs
@@ -99,10 +112,8 @@ loop-again c =
     let after = after-distance line _ (start .pre .1) (loop .i) here in (
       search needs,
       one-more (straightCheck line) (loop .i) (loop .inv .1) (long-straight line (loop .i) before after (c .if1 .left)),
-      front-more (loop .i) _ (loop .inv .2) (omega (arith, start .pre .0 .few)) (straight-length line (loop .i) before after (omega (arith, c .if1 .left)))
-          (omega (arith, start .pre .0 .distance-most (loop .i) here)),
+      front-more (loop .i) _ (loop .inv .2) (omega (arith, start .pre .0 .few)) (straight-length line (loop .i) before after (omega (arith, c .if1 .left))),
       before-next line _ (start .pre .1) (loop .i),
-      start .pre .1 .small (loop .i),
     )
 
 returns-2 : tie.Need-returns-2 Inv-loop μ-loop

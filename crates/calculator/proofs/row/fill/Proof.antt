@@ -1,14 +1,16 @@
 -- `fill`: one case for each way out. Assumes nothing.
 use Rattle.calculator.proofs.WaysOut.{small-row, filled-row}
 use borrow.Author.Needs.{needs}
+use native.Mathlib.Omega.{arith}
+use Rattle.calculator.proofs.Accepted.{few}
 use Rattle.calculator.proofs.row.fill.Statement.{statement}
 use Rattle.calculator.proofs.row.fill.Tie as tie
 
 mul-count : tie.Need-mul-count
-mul-count c = search needs
+mul-count c = omega (arith, few _ (c .before .before .pre .0))
 
 add-count : tie.Need-add-count
-add-count c = search needs
+add-count c = omega (arith, few _ (c .before .before .pre .0))
 
 returns : tie.Need-returns
 returns c =

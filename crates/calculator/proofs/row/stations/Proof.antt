@@ -2,11 +2,8 @@
 use mathlib.Core.Path.{sym, _∙_, ap}
 use Rattle.refusals.specs.Outcomes.{Outcome, outcomeOf}
 use Rattle.refusals.specs.Filling.{countAfter, bufferAfter}
-use Rattle.refusals.proofs.Joining.{passed-left}
-use Rattle.line.specs.Checks.{lineOutcome}
-use Rattle.line.proofs.InRange.{line-in-range}
 use Rattle.calculator.specs.Stations.{stationRow}
-use Rattle.calculator.specs.Answer.{alignmentOutcome, stationCount, stationsAnswer, stationsRow}
+use Rattle.calculator.specs.Answer.{stationCount, stationsAnswer, stationsRow}
 use Rattle.calculator.proofs.WaysOut.{refused-line, passed-line}
 use borrow.Author.Needs.{needs}
 use Rattle.calculator.proofs.row.stations.Statement.{statement}
@@ -22,13 +19,10 @@ enum-told : tie.Need-enum-told
 enum-told c = search needs
 
 fill-requires : tie.Need-fill-requires
-unfolding alignmentOutcome
 fill-requires c κs =
     let told = c .before .enum-told .given .1 in
-    let lengths = c .before .before .before .lengths-of .ensures in (
-      line-in-range _ (passed-left (lineOutcome _) _ (sym (lengths .outcome) ∙ ap outcomeOf told)),
-      (lengths .straights told, lengths .arcs told),
-    )
+    let lengths = c .before .before .before .lengths-of .ensures in
+    (sym (lengths .outcome) ∙ ap outcomeOf told, (lengths .straights told, lengths .arcs told))
 
 returns : tie.Need-returns
 returns c =

@@ -6,7 +6,10 @@ use native.Mathlib.Omega.{arith}
 use lib.IntN.{pos}
 use lib.ListN.{length, drop}
 use borrow.Author.Needs.{needs}
+use Rattle.numbers.proofs.Ranges.{at-most}
 use Rattle.calculator.specs.Stations.{spiralAt, formerST, curveStations}
+use Rattle.calculator.proofs.Accepted.{accepted, few}
+use Rattle.calculator.proofs.InOrder.{former-between}
 use Rattle.calculator.proofs.RowSteps.{numbersTo, next-ST, curve-stored, end-stored}
 use Rattle.calculator.proofs.row.write_row.Statement.{statement}
 use Rattle.calculator.proofs.row.write_row.Tie as tie
@@ -16,7 +19,6 @@ Inv-loop row₀ line lengths n station₀ i₀ row station i =
     (i ≤ n)
     × (length row ≡ length row₀)
     × (pos station ≡ formerST line i)
-    × (station ≤ 200000000000 + 32000000000 * i)
     × (row ≡ numbersTo line i ++ drop (4 * i) row₀)
 
 abbrev μ-loop : tie.MeasureT-loop
@@ -30,13 +32,13 @@ mul-station c = search needs
 
 loop-holds : tie.Need-loop-holds Inv-loop μ-loop
 unfolding formerST curveStations
-loop-holds c = (search needs, refl, refl, search needs, refl)
+loop-holds c = (search needs, refl, refl, refl)
 
 mul-spiral : tie.Need-mul-spiral Inv-loop μ-loop
 mul-spiral c = search needs
 
 element-copy-out-spiral : tie.Need-element-copy-out-spiral Inv-loop μ-loop
-element-copy-out-spiral c = search needs
+element-copy-out-spiral c = omega (arith, few _ (c .before .before .before .pre .0))
 
 mul-store-curve : tie.Need-mul-store-curve Inv-loop μ-loop
 mul-store-curve c = search needs
@@ -45,41 +47,38 @@ mul-store-curve-2 : tie.Need-mul-store-curve-2 Inv-loop μ-loop
 mul-store-curve-2 c = search needs
 
 element-copy-out-store-curve : tie.Need-element-copy-out-store-curve Inv-loop μ-loop
-element-copy-out-store-curve c = search needs
+element-copy-out-store-curve c = omega (arith, few _ (c .before .before .before .before .pre .0))
 
 cast-store-curve : tie.Need-cast-store-curve Inv-loop μ-loop
 cast-store-curve c =
     let start = c .before .before .before .before .before in
-    let i = c .before .before .before .loop .i in
-    let curve = start .pre .0 .curve i (c .before .before .loop-test .taken) in
+    let curve = accepted _ (start .pre .0) .in-range .curve (c .before .before .before .loop .i) (c .before .before .loop-test .taken) in
     omega (arith, curve .L-most)
 
 mul-store-curve-3 : tie.Need-mul-store-curve-3 Inv-loop μ-loop
 mul-store-curve-3 c =
     let start = c .before .before .before .before .before in
-    let i = c .before .before .before .loop .i in
-    let curve = start .pre .0 .curve i (c .before .before .loop-test .taken) in
+    let curve = accepted _ (start .pre .0) .in-range .curve (c .before .before .before .loop .i) (c .before .before .loop-test .taken) in
     omega (arith, curve .L-most)
 
 mul-store-curve-4 : tie.Need-mul-store-curve-4 Inv-loop μ-loop
 mul-store-curve-4 c = search needs
 
 element-copy-out-store-curve-2 : tie.Need-element-copy-out-store-curve-2 Inv-loop μ-loop
-element-copy-out-store-curve-2 c = search needs
+element-copy-out-store-curve-2 c = omega (arith, few _ (c .before .before .before .before .before .pre .0))
 
 store-curve-requires : tie.Need-store-curve-requires Inv-loop μ-loop
 store-curve-requires c κs =
     let start = c .before .before .before .before .before .before in
     let loop = c .before .before .before .before .loop in
     let here = c .before .before .before .loop-test .taken in
-    let few = start .pre .0 .few in (
+    let line = start .args .t1 in
+    let ok = accepted line (start .pre .0) in
+    let former = at-most (loop .inv .2) (former-between line ok (loop .i) (omega (arith, here))) in
+    let straight = at-most (start .pre .1 .0 .0 .used (loop .i) (omega (arith, here))) (ok .straight (loop .i) (omega (arith, here))) in
+    let arc = at-most (start .pre .1 .0 .1 .used (loop .i) here) (ok .arc (loop .i) here) in (
       omega (arith, loop .inv .1, start .pre .1 .1, here),
-      (
-        omega (arith, loop .inv .3, few, here),
-        start .pre .1 .0 .0 .small (loop .i),
-        omega (arith, start .pre .0 .curve (loop .i) here .L-most),
-        start .pre .1 .0 .1 .small (loop .i),
-      ),
+      (omega (arith, former, ok .in-range .few, here), straight, omega (arith, ok .in-range .curve (loop .i) here .L-most), arc),
     )
 
 add-i : tie.Need-add-i Inv-loop μ-loop
@@ -98,28 +97,30 @@ loop-again c =
     let line = start .args .t1 in
     let straight = start .pre .1 .0 .0 .used (loop .i) (omega (arith, here)) in
     let arc = start .pre .1 .0 .1 .used (loop .i) here in
-    let straight-most = start .pre .1 .0 .0 .small (loop .i) in
-    let arc-most = start .pre .1 .0 .1 .small (loop .i) in
-    let spiral-most = start .pre .0 .curve (loop .i) here .L-most in
     let room = start .pre .1 .1 in (
       search needs,
       stored .kept .0 ∙ loop .inv .1,
       next-ST line (loop .i) (loop .inv .2) straight refl arc (stored .ensures .0),
-      omega (arith, stored .ensures .0, loop .inv .3, straight-most, arc-most, spiral-most),
       curve-stored line (loop .i) (loop .inv .2) straight refl arc (start .args .row .now) (loop .row) _ (omega (arith, room, here))
-          (loop .inv .4) (stored .ensures .1),
+          (loop .inv .3) (stored .ensures .1),
     )
 
 mul-row : tie.Need-mul-row Inv-loop μ-loop
 mul-row c = search needs
 
 element-copy-out-row : tie.Need-element-copy-out-row Inv-loop μ-loop
-element-copy-out-row c = search needs
+element-copy-out-row c = omega (arith, few _ (c .before .before .before .pre .0))
 
 add-row : tie.Need-add-row Inv-loop μ-loop
 add-row c =
     let start = c .before .before .before .before in
-    omega (arith, c .before .before .loop .inv .3, start .pre .0 .few, start .pre .1 .0 .0 .small (start .args .t1 .count))
+    let loop = c .before .before .loop in
+    let line = start .args .t1 in
+    let ok = accepted line (start .pre .0) in
+    let all : loop .i ≡ line .count = omega arith in
+    let former = at-most (loop .inv .2) (former-between line ok (loop .i) (omega arith)) in
+    let straight = at-most (start .pre .1 .0 .0 .used (line .count) (omega arith)) (ok .straight (line .count) (omega arith)) in
+    omega (arith, former, straight, ok .in-range .few)
 
 mul-row-2 : tie.Need-mul-row-2 Inv-loop μ-loop
 mul-row-2 c = search needs
@@ -140,7 +141,7 @@ returns c =
     let line = start .args .t1 in
     let all : loop .i ≡ line .count = omega arith in
     end-stored line (loop .inv .2 ∙ ap (formerST line) all) (start .pre .1 .0 .0 .used (line .count) (omega arith)) (start .args .row .now) (loop .row) (start .pre .1 .1)
-    (loop .inv .4 ∙ ap (λ (i : ℕ). numbersTo line i ++ drop (4 * i) (start .args .row .now)) all)
+    (loop .inv .3 ∙ ap (λ (i : ℕ). numbersTo line i ++ drop (4 * i) (start .args .row .now)) all)
 
 pub write-row-spec : {M : Type 1} → statement M
 write-row-spec =
