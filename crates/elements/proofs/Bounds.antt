@@ -96,7 +96,7 @@ module _ (R L : ℕ) (R-most : R ≤ 5000000) (L-most : L ≤ 500000) (L-to-R : 
   spiral = natural L (omega arith) L-most
 
   sine-t : Between (sineOf (spiralAngle R L)) 0 (spiralAngle R L)
-  sine-t = sine-between (spiralAngle R L) (omega (arith, t-most))
+  sine-t = widen (sine-between (spiralAngle R L) (omega (arith, t-most))) (omega arith) (omega arith)
 
   one-less-cosine : Between (pos scale -ℤ cosineOf (spiralAngle R L)) 0 scale
   one-less-cosine =

@@ -63,11 +63,9 @@ series-between divisor first z n falls =
 pub square-most : (q : ℕ) → q ≤ greatestAngle → q * q / scale ≤ 1096622710
 square-most q h = omega (arith, mul-le-mul h h)
 
-pub sine-between : (q : ℕ) → q ≤ greatestAngle → Between (sineOf q) 0 q
+pub sine-between : (q : ℕ) → q ≤ greatestAngle → Between (sineOf q) (q - q * (q * q / scale) / (scale * 6)) q
 unfolding sineOf
-sine-between q h =
-    let b = series-between (λ j. 2 * j * (2 * j + 1)) q (q * q / scale) 5 falls in
-    record { value = b .value; same = b .same; low = omega arith; high = b .high }
+sine-between q h = series-between (λ j. 2 * j * (2 * j + 1)) q (q * q / scale) 5 falls
   where
     falls : (j : ℕ) → q * q / scale ≤ scale * (2 * suc j * (2 * suc j + 1))
     falls j =

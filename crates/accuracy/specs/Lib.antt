@@ -1,0 +1,5 @@
+-- What the laws of `accuracy` cite.
+pub mod Fractions
+pub mod ExactElements
+pub mod ExactStations
+pub mod Accuracy
