@@ -8,3 +8,10 @@ pub mod SineAndCosine
 pub mod Angles
 pub mod NearElements
 pub mod Tangent
+pub mod ElementsWithin
+pub mod NearStations
+pub mod Lengths
+pub mod StationsWithin
+pub mod ExactOrder
+pub mod RefusedLengths
+pub mod Accuracy

@@ -5,7 +5,7 @@ use Prim.Native.Nat.{ℕ, zero, suc, _+_, _*_, _≤_, _<_}
 use native.Mathlib.Nat.{mul-add, add-mul, mul-assoc, mul-comm, mul-left-comm, mul-one, one-mul, mul-le-mul-left, mul-le-mul-right, mul-le-mul, le-of-mul-le-mul-right, not-suc-le-zero}
 use native.Mathlib.Omega.{arith}
 use lib.IntN.{ℤ, pos, _+ℤ_, _-ℤ_, _*ℤ_}
-use Rattle.numbers.specs.Whole.{down}
+use Rattle.numbers.specs.Whole.{down, Between}
 use Rattle.accuracy.specs.Fractions.{Fraction, whole, nat, _⊕_, _⊖_, _⊗_, _⊘_}
 use Rattle.accuracy.proofs.Parts.{plus, minus, plus-times, minus-times, times-plus, times-minus, sum-parts, difference-parts, down-most, down-least, as-pos}
 
@@ -23,6 +23,10 @@ loosen {v = v} e f h =
       least = omega (arith, h .least, mul-le-mul-right (v .under) e);
       most = omega (arith, h .most, mul-le-mul-right (v .under) f);
     }
+
+-- A nearness of a number in a range is one of a natural number.
+pub near-value : {s least most x y : ℕ} {z : ℤ} {v : Fraction} (b : Between z least most) → Near s z v x y → Near s (pos (b .value)) v x y
+near-value {s} {x = x} {y = y} {v = v} b h = subst (λ (z : ℤ). Near s z v x y) (b .same) h
 
 -- ---- a natural number
 

@@ -1,5 +1,5 @@
 -- The tangent: the quotient of a sine and a cosine, and TT, rule against exact. Assumes nothing.
-use mathlib.Core.Path.{_≡_, refl, sym, _∙_, ap, subst}
+use mathlib.Core.Path.{_≡_, refl, sym, _∙_, ap}
 use Prim.Native.Nat.{ℕ, zero, suc, _+_, _*_, _/_, _≤_, _<_}
 use native.Mathlib.Nat.{mul-add, add-mul, mul-assoc, mul-comm, mul-left-comm, mul-one, zero-mul, mul-le-mul-left, mul-le-mul-right, mul-pos, le-of-mul-le-mul-right, div-mul-le-self, lt-div-mul-add, le-trans, not-suc-le-zero}
 use native.Mathlib.Omega.{arith}
@@ -14,7 +14,7 @@ use Rattle.elements.proofs.Bounds.{bounds, half-angle-most}
 use Rattle.accuracy.specs.Fractions.{Fraction, whole, nat, _⊕_, _⊗_, _⊘_, over, ratio}
 use Rattle.accuracy.specs.ExactElements.{exactHalfAngle, exactSine, exactCosine, exactShift, exactTan, exactTangent}
 use Rattle.accuracy.proofs.Parts.{plus, minus, plus-times, minus-times, no-minus}
-use Rattle.accuracy.proofs.Nearness.{Near, loosen, near-nat, near-sum, near-product}
+use Rattle.accuracy.proofs.Nearness.{Near, near-value, near-nat, near-sum, near-product}
 use Rattle.accuracy.proofs.Powers.{part-top, part-under}
 use Rattle.accuracy.proofs.Angles.{near-half-sine, near-half-cosine}
 use Rattle.accuracy.proofs.NearElements.{near-rounded, near-k, near-p}
@@ -118,10 +118,6 @@ module _ {a b : ℕ} {u v : Fraction} {x y x′ y′ : ℕ} (C T X Y : ℕ) (h :
       rw (over-top u (v .top) (v .under) v-above, over-under u (v .top) (v .under) v-above, plus-times (u .top) (v .under)) (rw mul-assoc at bound)
 
 -- ---- tan, of half the deflection, and TT
-
--- A nearness of a number in a range is one of a natural number.
-near-value : {s least most x y : ℕ} {z : ℤ} {v : Fraction} (b : Between z least most) → Near s z v x y → Near s (pos (b .value)) v x y
-near-value {s} {x = x} {y = y} {v = v} b h = subst (λ (z : ℤ). Near s z v x y) (b .same) h
 
 quotient-most : (u d n e a b : ℕ) → 1000 * (scale * u) ≤ 1000 * (a * d) + 4252 * d → 1000 * (b * e) ≤ 1000 * (scale * n) + 4709 * e
     → a ≤ 1047197551 → 451688645 ≤ b → scale * u * e ≤ 2318405787 * (d * n)

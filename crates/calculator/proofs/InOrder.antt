@@ -37,7 +37,7 @@ farther : (a b : ℕ) {c : ℕ} {xs : List ℕ} → Ascent (a + b) xs c → Asce
 farther a b t = up {a = a} {x = a + b} (omega arith) t
 
 -- The four stations of the curve at entry i.
-abbrev fourAt : Line → ℕ → List ℤ
+abbrev pub fourAt : Line → ℕ → List ℤ
 fourAt line i = pointsAt line i .TS ∷ pointsAt line i .SC ∷ pointsAt line i .CS ∷ pointsAt line i .ST ∷ []
 
 module _ (line : Line) (ok : Accepted line) where

@@ -12,3 +12,4 @@ pub mod Unused
 pub mod FirstRefusal
 pub mod Examples
 pub mod Replies
+pub mod RowNumbers

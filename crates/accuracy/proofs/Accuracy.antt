@@ -1,0 +1,42 @@
+-- Demand 3, in one theorem about the calculator's answer and row; and the same for a caller of `stations`. Assumes nothing.
+use mathlib.Core.Path.{_≡_, sym, _∙_, ap, subst}
+use mathlib.Core.List.{List}
+use Prim.Native.Nat.{ℕ, _≤_}
+use lib.Dec.{lit≤}
+use lib.ListN.{length}
+use Rattle.refusals.specs.declared.FillAnswer.{FillAnswer}
+use Rattle.refusals.specs.declared.FillAnswer.the-variants.{Count}
+use Rattle.refusals.specs.Filling.{fillReplyOf}
+use Rattle.line.specs.declared.Line.{Line}
+use Rattle.calculator.specs.Answer.{stationsAnswer, stationsRow}
+use Rattle.calculator.proofs.Accepted.{accepted}
+use Rattle.calculator.proofs.FirstRefusal.{first-refusal}
+use Rattle.calculator.proofs.Replies.{counted, refused-stations}
+use Rattle.calculator.proofs.RowNumbers.{row-numbers}
+use Rattle.accuracy.specs.ExactElements.{documentTerms}
+use Rattle.accuracy.specs.Accuracy.{RowWithin, Accurate}
+use Rattle.accuracy.proofs.StationsWithin.{row-within}
+use Rattle.accuracy.proofs.ExactOrder.{exactly-sound}
+use Rattle.accuracy.proofs.RefusedLengths.{straight-shorter, arc-shorter}
+
+-- With seven terms of each series or more.
+pub accuracy-with : (n : ℕ) → 7 ≤ n → (line : Line) (row : List ℕ) → Accurate n line row
+accuracy-with n seven line row =
+    record {
+      stations = λ e. row-within n seven line (accepted line (counted line row e .checked) .in-range) (row-numbers line row e);
+      sound = λ e. exactly-sound n seven line (accepted line (counted line row e .checked));
+      straight = λ e. straight-shorter n seven line (first-refusal line (length row) (refused-stations line row e .outcome));
+      arc = λ e. arc-shorter n seven line (first-refusal line (length row) (refused-stations line row e .outcome));
+    }
+
+-- Demand 3, with document 01's eight terms.
+pub accuracy : (line : Line) (row : List ℕ) → Accurate documentTerms line row
+accuracy line row = accuracy-with documentTerms (lit≤ tt) line row
+
+-- For a caller of `stations` that got its count: what the contract says of the answer and of the row at exit is enough for 1.
+pub stations-within : (line : Line) (entry exit : List ℕ) (answer : FillAnswer) {count : ℕ}
+    → fillReplyOf answer ≡ stationsAnswer line (length entry) → exit ≡ stationsRow line entry → answer ≡ Count count
+    → RowWithin documentTerms line exit
+stations-within line entry exit answer reply memory counts =
+    subst (RowWithin documentTerms line) (sym memory)
+    (accuracy line entry .stations (sym reply ∙ ap fillReplyOf counts))
