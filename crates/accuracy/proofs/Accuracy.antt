@@ -16,7 +16,7 @@ use Rattle.calculator.proofs.RowNumbers.{row-numbers}
 use Rattle.accuracy.specs.ExactElements.{documentTerms}
 use Rattle.accuracy.specs.Accuracy.{RowWithin, Accurate}
 use Rattle.accuracy.proofs.StationsWithin.{row-within}
-use Rattle.accuracy.proofs.ExactOrder.{exactly-sound}
+use Rattle.accuracy.proofs.ExactOrder.{in-exact-order}
 use Rattle.accuracy.proofs.RefusedLengths.{straight-shorter, arc-shorter}
 
 -- With seven terms of each series or more.
@@ -24,9 +24,9 @@ pub accuracy-with : (n : ℕ) → 7 ≤ n → (line : Line) (row : List ℕ) →
 accuracy-with n seven line row =
     record {
       stations = λ e. row-within n seven line (accepted line (counted line row e .checked) .in-range) (row-numbers line row e);
-      sound = λ e. exactly-sound n seven line (accepted line (counted line row e .checked));
-      straight = λ e. straight-shorter n seven line (first-refusal line (length row) (refused-stations line row e .outcome));
-      arc = λ e. arc-shorter n seven line (first-refusal line (length row) (refused-stations line row e .outcome));
+      order = λ e. in-exact-order n seven line (accepted line (counted line row e .checked));
+      short-straight = λ e. straight-shorter n seven line (first-refusal line (length row) (refused-stations line row e .outcome));
+      short-arc = λ e. arc-shorter n seven line (first-refusal line (length row) (refused-stations line row e .outcome));
     }
 
 -- Demand 3, with document 01's eight terms.

@@ -5,6 +5,7 @@ use native.Mathlib.Nat.{mul-comm, mul-zero, mul-pos}
 use native.Mathlib.Omega.{arith}
 use lib.Dec.{lit<, lit≤}
 use lib.IntN.{pos}
+use Rattle.line.specs.Ranges.{CurveInRange}
 use Rattle.elements.specs.WorkingRule.{scale, fullAngle, halfAngle, spiralAngle, sineOf, cosineOf}
 use Rattle.elements.proofs.Bounds.{half-angle-most, spiral-angle-most}
 use Rattle.accuracy.specs.Fractions.{Fraction, whole, nat, _⊗_, _⊘_}
@@ -29,19 +30,37 @@ near-angle : (A c y : ℕ) → zero < c → A * 411 ≤ y * c → Near scale (po
 near-angle A c y above h =
     near-down c 1000 y above (omega (arith, mul-zero A)) h (near-part c above (near-multiple A near-pi))
 
-module _ (A : ℕ) (A-most : A ≤ 432000) where
+module _ (A R L : ℕ) (ok : CurveInRange A R L) where
   pub near-full-angle : Near scale (pos (fullAngle A)) (exactAngle A) 1000 274
   unfolding fullAngle exactAngle
-  near-full-angle = near-angle A 648000 274 (lit< tt) (omega arith)
+  near-full-angle = near-angle A 648000 274 (lit< tt) (omega (arith, ok .A-most))
 
-  pub half : Term (halfAngle A) (exactHalfAngle A) (record { most = 1047197551; short = 1000; over = 137 })
+  half : Term (halfAngle A) (exactHalfAngle A) (record { most = 1047197551; short = 1000; over = 137 })
   unfolding halfAngle exactHalfAngle exactPi whole _⊘_ _⊗_
   half =
       record {
         sign = refl;
-        fits = half-angle-most A A-most;
-        near = near-angle A 1296000 137 (lit< tt) (omega arith);
+        fits = half-angle-most A (ok .A-most);
+        near = near-angle A 1296000 137 (lit< tt) (omega (arith, ok .A-most));
       }
+
+  -- ---- the spiral
+
+  pub R-above : zero < R
+  R-above = omega (arith, ok .R-least)
+
+  pub spiral : Term (spiralAngle R L) (exactSpiralAngle R L) (record { most = 500000000; short = 1000; over = 0 })
+  unfolding spiralAngle exactSpiralAngle whole
+  spiral =
+      record {
+        sign = ap minus (part-top (nat L) (mul-pos (lit< tt) R-above));
+        fits = spiral-angle-most R L (ok .L-to-R);
+        near =
+            near-down R 1000 0 R-above (omega arith) (omega arith)
+            (at-scale (omega arith) (omega arith) (near-part (2 * R) (mul-pos (lit< tt) R-above) (near-nat 500000000 L)));
+      }
+
+  -- ---- their sines and cosines
 
   module _ (n : ℕ) (seven : 7 ≤ n) where
     pub near-half-sine : Near scale (sineOf (halfAngle A)) (exactSine n (exactHalfAngle A)) 4252 3936
@@ -50,21 +69,6 @@ module _ (A : ℕ) (A-most : A ≤ 432000) where
     pub near-half-cosine : Near scale (cosineOf (halfAngle A)) (exactCosine n (exactHalfAngle A)) 3615 4709
     near-half-cosine = loosen (lit≤ tt) (lit≤ tt) (near-cosine _ half n 63 seven (lit≤ tt) (lit≤ tt))
 
--- ---- the spiral
-
-module _ (R L : ℕ) (above : zero < R) (L-to-R : L ≤ R) where
-  pub spiral : Term (spiralAngle R L) (exactSpiralAngle R L) (record { most = 500000000; short = 1000; over = 0 })
-  unfolding spiralAngle exactSpiralAngle whole
-  spiral =
-      record {
-        sign = ap minus (part-top (nat L) (mul-pos (lit< tt) above));
-        fits = spiral-angle-most R L L-to-R;
-        near =
-            near-down R 1000 0 above (omega arith) (omega arith)
-            (at-scale (omega arith) (omega arith) (near-part (2 * R) (mul-pos (lit< tt) above) (near-nat 500000000 L)));
-      }
-
-  module _ (n : ℕ) (seven : 7 ≤ n) where
     pub near-spiral-sine : Near scale (sineOf (spiralAngle R L)) (exactSine n (exactSpiralAngle R L)) 4049 3244
     near-spiral-sine = loosen (lit≤ tt) (lit≤ tt) (near-sine _ spiral n 25 seven (lit≤ tt) (lit≤ tt))
 

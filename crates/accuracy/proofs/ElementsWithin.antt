@@ -47,13 +47,12 @@ within {q} {v} e n f g =
 -- With seven terms of the series or more.
 pub elements-within : (n A R L : ℕ) → 7 ≤ n → CurveInRange A R L → ElementsWithin n A R L
 elements-within n A R L seven ok =
-    let above : zero < R = omega (arith, ok .R-least) in
     record {
-      X = within 2 (near-X R L above (ok .L-to-R) (ok .L-most)) (lit≤ tt) (lit≤ tt);
-      Y = within 2 (near-Y R L above (ok .L-to-R) (ok .L-most)) (lit≤ tt) (lit≤ tt);
-      k = within 30 (near-k R L above (ok .L-to-R) (ok .L-most) (ok .R-most) n seven) (lit≤ tt) (lit≤ tt);
-      p = within 30 (near-p R L above (ok .L-to-R) (ok .L-most) (ok .R-most) n seven) (lit≤ tt) (lit≤ tt);
-      D = within 6 (near-D A R L (ok .A-most) (ok .R-most)) (lit≤ tt) (lit≤ tt);
+      X = within 2 (near-X A R L ok) (lit≤ tt) (lit≤ tt);
+      Y = within 2 (near-Y A R L ok) (lit≤ tt) (lit≤ tt);
+      k = within 30 (near-k A R L ok n seven) (lit≤ tt) (lit≤ tt);
+      p = within 30 (near-p A R L ok n seven) (lit≤ tt) (lit≤ tt);
+      D = within 6 (near-D A R L ok) (lit≤ tt) (lit≤ tt);
       TT = within 300 (near-TT A R L ok n seven) (lit≤ tt) (lit≤ tt);
     }
 

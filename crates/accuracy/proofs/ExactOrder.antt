@@ -8,32 +8,32 @@ use Rattle.line.specs.declared.Line.{Line}
 use Rattle.calculator.proofs.Accepted.{Accepted}
 use Rattle.accuracy.specs.Fractions.{whole, _≺_}
 use Rattle.accuracy.specs.ExactStations.{exactSpiralAt, exactArcAt, exactStraightAt, exactFormerST, exactPointsAt, exactEnd}
-use Rattle.accuracy.specs.Accuracy.{tenths, ExactlySound}
+use Rattle.accuracy.specs.Accuracy.{tenths, leastStraight, leastArc, InExactOrder}
 use Rattle.accuracy.proofs.Nearness.{near-value}
 use Rattle.accuracy.proofs.NearStations.{near-arc-at, near-straight}
 use Rattle.accuracy.proofs.Lengths.{longer, above-tenths, not-below, not-back, onward}
 
 module _ (n : ℕ) (seven : 7 ≤ n) (line : Line) (ok : Accepted line) where
-  straight-longer : (i : ℕ) → i ≤ line .count → tenths 4 ≺ exactStraightAt n line i
+  straight-longer : (i : ℕ) → i ≤ line .count → tenths leastStraight ≺ exactStraightAt n line i
   straight-longer i h =
-      longer 1000 4 (near-value (ok .straight i h) (near-straight n seven line (ok .in-range) i h)) (ok .straight i h .low) (lit< tt)
+      longer 1000 leastStraight (near-value (ok .straight i h) (near-straight n seven line (ok .in-range) i h)) (ok .straight i h .low) (lit< tt)
 
-  arc-longer : (i : ℕ) → i < line .count → tenths 9 ≺ exactArcAt line i
-  arc-longer i h = longer 1000 9 (near-value (ok .arc i h) (near-arc-at n seven line (ok .in-range) i h)) (ok .arc i h .low) (lit< tt)
+  arc-longer : (i : ℕ) → i < line .count → tenths leastArc ≺ exactArcAt line i
+  arc-longer i h = longer 1000 leastArc (near-value (ok .arc i h) (near-arc-at n seven line (ok .in-range) i h)) (ok .arc i h .low) (lit< tt)
 
-  pub exactly-sound : ExactlySound n line
+  pub in-exact-order : InExactOrder n line
   unfolding exactPointsAt exactFormerST exactEnd exactSpiralAt whole
-  exactly-sound =
+  in-exact-order =
       record {
         straight = straight-longer;
         arc = arc-longer;
         curve = λ i h. record {
-          TS = not-back _ (exactStraightAt n line i) (not-below 4 (straight-longer i (omega arith)));
+          TS = not-back _ (exactStraightAt n line i) (not-below leastStraight (straight-longer i (omega arith)));
           SC = not-back _ (exactSpiralAt line i) refl;
-          CS = not-back _ (exactArcAt line i) (not-below 9 (arc-longer i h));
+          CS = not-back _ (exactArcAt line i) (not-below leastArc (arc-longer i h));
           ST = not-back _ (exactSpiralAt line i) refl;
         };
         end =
-            not-back _ (exactStraightAt n line (line .count)) (not-below 4 (straight-longer (line .count) (omega arith)));
-        apart = λ i h. onward _ (exactStraightAt n line (suc i)) (above-tenths 4 (straight-longer (suc i) (omega arith)));
+            not-back _ (exactStraightAt n line (line .count)) (not-below leastStraight (straight-longer (line .count) (omega arith)));
+        apart = λ i h. onward _ (exactStraightAt n line (suc i)) (above-tenths leastStraight (straight-longer (suc i) (omega arith)));
       }

@@ -15,3 +15,4 @@ pub mod StationsWithin
 pub mod ExactOrder
 pub mod RefusedLengths
 pub mod Accuracy
+pub mod Examples

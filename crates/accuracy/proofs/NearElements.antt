@@ -3,6 +3,7 @@ use Prim.Native.Nat.{ℕ, zero, _+_, _*_, _/_, _≤_, _<_}
 use native.Mathlib.Omega.{arith}
 use lib.Dec.{lit<, lit≤}
 use lib.IntN.{ℤ, pos, _*ℤ_}
+use Rattle.line.specs.Ranges.{CurveInRange}
 use Rattle.elements.specs.WorkingRule.{scale, rounded, spiralAngle, t2, t3, t4, unitX, unitY, spiralX, spiralY, centreOf, shiftOf, arcOf}
 use Rattle.accuracy.specs.Fractions.{Fraction, nat, _⊕_, _⊖_, _⊗_, _^_, _⊘_}
 use Rattle.accuracy.specs.ExactElements.{exactSpiralAngle, exactX, exactY, exactCentre, exactShift, exactArc}
@@ -27,64 +28,63 @@ near-quotient : {a : ℕ} {v : Fraction} {x y : ℕ} (c x′ y′ : ℕ) → zer
     → Near scale (pos a) v x y → Near scale (pos (a / c)) (v ⊘ c) x′ y′
 near-quotient c x′ y′ above e f h = near-down c x′ y′ above e f (near-part c above h)
 
-module _ (R L : ℕ) (above : zero < R) (L-to-R : L ≤ R) where
+module _ (A R L : ℕ) (ok : CurveInRange A R L) where
+  -- ---- the end of the spiral of length one, from the powers of the spiral angle
+
   s : Fraction
   s = exactSpiralAngle R L
 
   first : Term (spiralAngle R L) (s ^ 1) (record { most = 500000000; short = 1000; over = 0 })
   unfolding s
-  first = term-same (power-one (exactSpiralAngle R L) (spiral R L above L-to-R .sign)) (spiral R L above L-to-R)
+  first = term-same (power-one s (spiral A R L ok .sign)) (spiral A R L ok)
 
-  -- ---- the end of the spiral of length one
+  second : Term (t2 (spiralAngle R L)) (s ^ 2) (record { most = 250000000; short = 2001; over = 0 })
+  unfolding t2 s
+  second = term-power s 1 1 (spiral A R L ok .sign) first first
 
   near-unit-x : Near scale (unitX (spiralAngle R L)) (nat 1 ⊖ s ^ 2 ⊘ 10 ⊕ s ^ 4 ⊘ 216) 1010 1201
-  unfolding unitX t2 t4 s
+  unfolding unitX t4 s
   near-unit-x =
-      let sign = spiral R L above L-to-R .sign in
-      let second = term-power (exactSpiralAngle R L) 1 1 sign first first in
-      let fourth = term-power (exactSpiralAngle R L) 2 2 sign second second in
+      let fourth = term-power s 2 2 (spiral A R L ok .sign) second second in
       near-sum
       (near-difference (near-nat scale 1) (near-quotient 10 1201 0 (lit< tt) (lit≤ tt) (lit≤ tt) (second .near)))
       (near-quotient 216 1010 0 (lit< tt) (lit≤ tt) (lit≤ tt) (fourth .near))
 
   near-unit-y : Near scale (unitY (spiralAngle R L)) (s ⊘ 3 ⊖ s ^ 3 ⊘ 42) 1334 1054
-  unfolding unitY t2 t3 s
+  unfolding unitY t3 s
   near-unit-y =
-      let sign = spiral R L above L-to-R .sign in
-      let second = term-power (exactSpiralAngle R L) 1 1 sign first first in
-      let third = term-power (exactSpiralAngle R L) 2 1 sign second first in
+      let third = term-power s 2 1 (spiral A R L ok .sign) second first in
       near-difference
-      (near-quotient 3 1334 0 (lit< tt) (lit≤ tt) (lit≤ tt) (spiral R L above L-to-R .near))
+      (near-quotient 3 1334 0 (lit< tt) (lit≤ tt) (lit≤ tt) (spiral A R L ok .near))
       (near-quotient 42 1054 0 (lit< tt) (lit≤ tt) (lit≤ tt) (third .near))
 
-  -- ---- X, Y, k, p
+  -- ---- the elements
 
-  module _ (L-most : L ≤ 500000) where
-    pub near-X : Near 1000 (spiralX R L) (exactX R L) 1505 601
-    unfolding spiralX exactX s
-    near-X = near-length L 1505 601 (omega arith) (omega arith) near-unit-x
+  pub near-X : Near 1000 (spiralX R L) (exactX R L) 1505 601
+  unfolding spiralX exactX s
+  near-X = near-length L 1505 601 (omega (arith, ok .L-most)) (omega (arith, ok .L-most)) near-unit-x
 
-    pub near-Y : Near 1000 (spiralY R L) (exactY R L) 1667 527
-    unfolding spiralY exactY s
-    near-Y = near-length L 1667 527 (omega arith) (omega arith) near-unit-y
+  pub near-Y : Near 1000 (spiralY R L) (exactY R L) 1667 527
+  unfolding spiralY exactY s
+  near-Y = near-length L 1667 527 (omega (arith, ok .L-most)) (omega (arith, ok .L-most)) near-unit-y
 
-    module _ (R-most : R ≤ 5000000) (n : ℕ) (seven : 7 ≤ n) where
-      pub near-k : Near 1000 (centreOf R L) (exactCentre n R L) 17725 21846
-      unfolding centreOf exactCentre
-      near-k =
-          near-difference near-X
-          (near-length R 21245 16220 (omega arith) (omega arith) (near-spiral-sine R L above L-to-R n seven))
+  pub near-D : Near 1000 (arcOf A R L) (exactArc A R L) 6000 1370
+  unfolding arcOf exactArc
+  near-D =
+      near-difference
+      (near-length R 6000 1370 (omega (arith, ok .R-most)) (omega (arith, ok .R-most)) (near-full-angle A R L ok))
+      (near-nat 1000 L)
 
-      pub near-p : Near 1000 (shiftOf R L) (exactShift n R L) 17142 21722
-      unfolding shiftOf exactShift
-      near-p =
-          near-difference near-Y
-          (near-length R 21195 15475 (omega arith) (omega arith)
-          (near-difference (near-nat scale 1) (near-spiral-cosine R L above L-to-R n seven)))
+  module _ (n : ℕ) (seven : 7 ≤ n) where
+    pub near-k : Near 1000 (centreOf R L) (exactCentre n R L) 17725 21846
+    unfolding centreOf exactCentre
+    near-k =
+        near-difference near-X
+        (near-length R 21245 16220 (omega (arith, ok .R-most)) (omega (arith, ok .R-most)) (near-spiral-sine A R L ok n seven))
 
--- ---- D
-
-pub near-D : (A R L : ℕ) → A ≤ 432000 → R ≤ 5000000 → Near 1000 (arcOf A R L) (exactArc A R L) 6000 1370
-unfolding arcOf exactArc
-near-D A R L A-most R-most =
-    near-difference (near-length R 6000 1370 (omega arith) (omega arith) (near-full-angle A A-most)) (near-nat 1000 L)
+    pub near-p : Near 1000 (shiftOf R L) (exactShift n R L) 17142 21722
+    unfolding shiftOf exactShift
+    near-p =
+        near-difference near-Y
+        (near-length R 21195 15475 (omega (arith, ok .R-most)) (omega (arith, ok .R-most))
+        (near-difference (near-nat scale 1) (near-spiral-cosine A R L ok n seven)))

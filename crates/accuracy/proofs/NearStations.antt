@@ -37,7 +37,7 @@ module _ (n : ℕ) (seven : 7 ≤ n) (line : Line) (ok : LineInRange line) where
 
   pub near-arc-at : (i : ℕ) → i < line .count → Near 1000 (arcAt line i) (exactArcAt line i) 6000 1370
   unfolding arcAt exactArcAt
-  near-arc-at i h = near-D _ _ _ (ok .curve i h .A-most) (ok .curve i h .R-most)
+  near-arc-at i h = near-D _ _ _ (ok .curve i h)
 
   near-tangent-at : (i : ℕ) → i < line .count → Near 1000 (tangentAt line i) (exactTangentAt n line i) shortTangent overTangent
   unfolding tangentAt exactTangentAt

@@ -256,34 +256,34 @@ near-product {s} {r} {a} {b} {u} {v} {x} {y} {x′} {y′} M N h k z f g =
           (omega (
             arith,
             weighed (1000 * (s * r * (u1 * n))) (1000 * (a * b * (d * e) + s * r * (u2 * n))) a (r * n) d e (1000 * (b * e)) (1000 * (r * n))
-            (1000 * (s * u1))
-            (1000 * (a * d + s * u2))
-            x
-            x′
-            M
-            N
-            (omega (arith, error))
-            (omega (arith, rw z at (k .least)))
-            (omega (arith, h .least))
-            f
-            g,
+                (1000 * (s * u1))
+                (1000 * (a * d + s * u2))
+                x
+                x′
+                M
+                N
+                (omega (arith, error))
+                (omega (arith, rw z at (k .least)))
+                (omega (arith, h .least))
+                f
+                g,
           ));
       most =
           rw (as-pos (v .top) z, plus-times (u .top) n, minus-times (u .top) n)
           (omega (
             arith,
             weighed (1000 * (a * b * (d * e) + s * r * (u2 * n))) (1000 * (s * r * (u1 * n))) a (r * n) d e (1000 * (r * n)) (1000 * (b * e))
-            (1000 * (a * d + s * u2))
-            (1000 * (s * u1))
-            y
-            y′
-            M
-            N
-            error
-            (omega (arith, rw z at (k .most)))
-            (omega (arith, h .most))
-            f
-            g,
+                (1000 * (a * d + s * u2))
+                (1000 * (s * u1))
+                y
+                y′
+                M
+                N
+                error
+                (omega (arith, rw z at (k .most)))
+                (omega (arith, h .most))
+                f
+                g,
           ));
     }
   where

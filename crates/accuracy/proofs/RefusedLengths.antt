@@ -6,7 +6,7 @@ use lib.Dec.{lit≤}
 use Rattle.line.specs.declared.Line.{Line}
 use Rattle.line.proofs.InRange.{line-in-range}
 use Rattle.calculator.proofs.FirstRefusal.{Reason, fields, radius, spiral, arc, straight, row}
-use Rattle.accuracy.specs.Accuracy.{ShortStraight, ShortArc}
+use Rattle.accuracy.specs.Accuracy.{refusedStraight, refusedArc, ShortStraight, ShortArc}
 use Rattle.accuracy.proofs.NearStations.{near-arc-at, near-straight}
 use Rattle.accuracy.proofs.Lengths.{shorter}
 
@@ -20,7 +20,7 @@ module _ (n : ℕ) (seven : 7 ≤ n) (line : Line) {room place : ℕ} where
       subst (ShortStraight n line) (sym p)
       (record {
         inside = b .below;
-        short = shorter 1000 16 (near-straight n seven line (line-in-range line (b .fields)) i (b .below)) l (lit≤ tt);
+        short = shorter 1000 refusedStraight (near-straight n seven line (line-in-range line (b .fields)) i (b .below)) l (lit≤ tt);
       })
   straight-shorter (row a l e p) = absurd (omega arith)
 
@@ -33,7 +33,7 @@ module _ (n : ℕ) (seven : 7 ≤ n) (line : Line) {room place : ℕ} where
         entry = i;
         named = p;
         inside = b .below;
-        short = shorter 1000 11 (near-arc-at n seven line (line-in-range line (b .fields)) i (b .below)) l (lit≤ tt);
+        short = shorter 1000 refusedArc (near-arc-at n seven line (line-in-range line (b .fields)) i (b .below)) l (lit≤ tt);
       }
   arc-shorter (straight i b l e p) = absurd (omega arith)
   arc-shorter (row a l e p) = absurd (omega arith)

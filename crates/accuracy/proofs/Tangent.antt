@@ -149,11 +149,11 @@ module _ (A R L : ℕ) (ok : CurveInRange A R L) (n : ℕ) (seven : 7 ≤ n) whe
 
   near-sine : Near scale (pos (sine-half .value)) sine 4252 3936
   unfolding sine
-  near-sine = near-value sine-half (near-half-sine A (ok .A-most) n seven)
+  near-sine = near-value sine-half (near-half-sine A R L ok n seven)
 
   near-cosine : Near scale (pos (cosine-half .value)) cosine 3615 4709
   unfolding cosine
-  near-cosine = near-value cosine-half (near-half-cosine A (ok .A-most) n seven)
+  near-cosine = near-value cosine-half (near-half-cosine A R L ok n seven)
 
   -- The half angle of one second is 2,424 units already, and its sine not much less.
   sine-least : 4 ≤ sine-half .value
@@ -199,13 +199,13 @@ module _ (A R L : ℕ) (ok : CurveInRange A R L) (n : ℕ) (seven : 7 ≤ n) whe
 
   near-base : Near 1000 (pos (1000 * R + shift .value)) (nat R ⊕ exactShift n R L) 17142 21722
   near-base =
-      near-sum (near-nat 1000 R) (near-value shift (near-p R L (omega (arith, ok .R-least)) (ok .L-to-R) (ok .L-most) (ok .R-most) n seven))
+      near-sum (near-nat 1000 R) (near-value shift (near-p A R L ok n seven))
 
   pub near-TT : Near 1000 (tangentOf A R L) (exactTangent n A R L) 234270 210825
   unfolding tangentOf exactTangent exactTan sine cosine
   near-TT =
       rw (shift .same, tan-is)
-      (near-sum (near-k R L (omega (arith, ok .R-least)) (ok .L-to-R) (ok .L-most) (ok .R-most) n seven)
+      (near-sum (near-k A R L ok n seven)
       (near-rounded scale 216545 188979 (lit< tt) (lit≤ tt) (lit≤ tt)
       (near-product 5083333333 2318405787 near-base near-tan
       (ratio-sign 451688645 2318405787 33584 27269 near-sine near-cosine sine-above cosine-above tan-bound)

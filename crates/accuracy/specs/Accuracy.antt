@@ -50,6 +50,13 @@ pub record RowWithin (n : ℕ) (line : Line) (row : List ℕ) : Type 0 where
 abbrev pub tenths : ℕ → Fraction
 tenths k = nat k ⊘ 10
 
+-- "the clerk's straights are longer than 0.4 mm and his arcs than 0.9 mm"
+abbrev pub leastStraight : ℕ
+leastStraight = 4
+
+abbrev pub leastArc : ℕ
+leastArc = 9
+
 -- From the ST before distance i over the points of the next curve, the exact stations never go back.
 pub record Forward (n : ℕ) (line : Line) (i : ℕ) : Type 0 where
   pub TS : exactFormerST n line i ≼ exactPointsAt n line i .TS
@@ -57,33 +64,39 @@ pub record Forward (n : ℕ) (line : Line) (i : ℕ) : Type 0 where
   pub CS : exactPointsAt n line i .SC ≼ exactPointsAt n line i .CS
   pub ST : exactPointsAt n line i .CS ≼ exactPointsAt n line i .ST
 
--- "the clerk's straights are longer than 0.4 mm and his arcs than 0.9 mm"; his stations go on from the start to the end, and no two curves
--- overlap: each ST comes before the next TS.
-pub record ExactlySound (n : ℕ) (line : Line) : Type 0 where
-  pub straight : (i : ℕ) → i ≤ line .count → tenths 4 ≺ exactStraightAt n line i
-  pub arc : (i : ℕ) → i < line .count → tenths 9 ≺ exactArcAt line i
+-- Straights and arcs are that long; the stations go on from the start to the end; and no two curves overlap: each ST comes before the next TS.
+pub record InExactOrder (n : ℕ) (line : Line) : Type 0 where
+  pub straight : (i : ℕ) → i ≤ line .count → tenths leastStraight ≺ exactStraightAt n line i
+  pub arc : (i : ℕ) → i < line .count → tenths leastArc ≺ exactArcAt line i
   pub curve : (i : ℕ) → i < line .count → Forward n line i
   pub end : exactFormerST n line (line .count) ≼ exactEnd n line
   pub apart : (i : ℕ) → suc i < line .count → exactPointsAt n line i .ST ≺ exactPointsAt n line (suc i) .TS
 
 -- ---- a refused line
 
--- "lines refused 15 .. have by the clerk a straight below 1.6 mm .. at the place named", the index of its distance
+-- "lines refused 15 or 14 have by the clerk a straight below 1.6 mm, an arc below 1.1 mm, at the place named"
+abbrev pub refusedStraight : ℕ
+refusedStraight = 16
+
+abbrev pub refusedArc : ℕ
+refusedArc = 11
+
+-- The place is the index of the distance,
 pub record ShortStraight (n : ℕ) (line : Line) (place : ℕ) : Type 0 where
   pub inside : place ≤ line .count
-  pub short : exactStraightAt n line place ≺ tenths 16
+  pub short : exactStraightAt n line place ≺ tenths refusedStraight
 
--- "14 .. an arc below 1.1 mm, at the place named", the curve
+-- or the number of the curve, which stands at the entry before.
 pub record ShortArc (line : Line) (place : ℕ) : Type 0 where
   pub entry : ℕ
   pub named : place ≡ suc entry
   pub inside : entry < line .count
-  pub short : exactArcAt line entry ≺ tenths 11
+  pub short : exactArcAt line entry ≺ tenths refusedArc
 
 -- ---- demand 3, for a line and a row
 
 pub record Accurate (n : ℕ) (line : Line) (row : List ℕ) : Type 0 where
   pub stations : {count : ℕ} → stationsAnswer line (length row) ≡ filled count → RowWithin n line (stationsRow line row)
-  pub sound : {count : ℕ} → stationsAnswer line (length row) ≡ filled count → ExactlySound n line
-  pub straight : {place : ℕ} → stationsAnswer line (length row) ≡ unfilled 15 place → ShortStraight n line place
-  pub arc : {place : ℕ} → stationsAnswer line (length row) ≡ unfilled 14 place → ShortArc line place
+  pub order : {count : ℕ} → stationsAnswer line (length row) ≡ filled count → InExactOrder n line
+  pub short-straight : {place : ℕ} → stationsAnswer line (length row) ≡ unfilled 15 place → ShortStraight n line place
+  pub short-arc : {place : ℕ} → stationsAnswer line (length row) ≡ unfilled 14 place → ShortArc line place

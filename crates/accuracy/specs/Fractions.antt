@@ -22,7 +22,6 @@ nat n = whole (pos n)
 infixl 6 _⊕_ _⊖_
 infixl 7 _⊗_ _⊘_
 infixr 8 _^_
-
 unfoldable pub _⊕_ : Fraction → Fraction → Fraction
 u ⊕ v =
     record {
@@ -63,7 +62,6 @@ ratio u v = over u (v .top) (v .under)
 -- ---- order, by cross products
 
 infix 4 _≼_ _≺_
-
 pub record _≼_ (u v : Fraction) : Type 0 where
   pub cross : (u .top *ℤ pos (v .under)) ≤ℤ (v .top *ℤ pos (u .under))
 
