@@ -1,7 +1,7 @@
 -- The angles of a curve, rule against exact. Assumes nothing.
 use mathlib.Core.Path.{_≡_, refl, ap, transport}
-use Prim.Native.Nat.{ℕ, zero, _+_, _*_, _/_, _≤_, _<_}
-use native.Mathlib.Nat.{mul-comm, mul-zero, mul-pos}
+use Prim.Native.Nat.{ℕ, zero, _*_, _/_, _≤_, _<_}
+use native.Mathlib.Nat.{mul-zero, mul-pos}
 use native.Mathlib.Omega.{arith}
 use lib.Dec.{lit<, lit≤}
 use lib.IntN.{pos}
@@ -13,7 +13,7 @@ use Rattle.accuracy.specs.ExactElements.{exactPi, exactAngle, exactHalfA
 use Rattle.accuracy.proofs.Parts.{minus}
 use Rattle.accuracy.proofs.Nearness.{Near, loosen, near-nat, near-multiple, near-part, near-down}
 use Rattle.accuracy.proofs.Powers.{part-top}
-use Rattle.accuracy.proofs.Terms.{Bound, Term}
+use Rattle.accuracy.proofs.Terms.{Term}
 use Rattle.accuracy.proofs.SineAndCosine.{near-sine, near-cosine}
 
 -- The same nearness, with the number or the scale written otherwise.
@@ -24,7 +24,7 @@ at-scale {v = v} {x = x} {y = y} p r h = transport (λ i. Near (p i) (pos (r i))
 
 near-pi : Near scale (pos 3141592654) exactPi 0 411
 unfolding exactPi whole _⊘_
-near-pi = record { least = lit≤ tt; most = lit≤ tt }
+near-pi = record { least = record { holds = lit≤ tt }; most = record { holds = lit≤ tt } }
 
 near-angle : (A c y : ℕ) → zero < c → A * 411 ≤ y * c → Near scale (pos (A * 3141592654 / c)) (nat A ⊗ exactPi ⊘ c) 1000 y
 near-angle A c y above h =

@@ -1,13 +1,13 @@
 -- Document 01's bounds between rule and exact values, element by element. Assumes nothing.
 use mathlib.Core.Path.{_≡_}
-use Prim.Native.Nat.{ℕ, zero, suc, _+_, _*_, _≤_, _<_}
-use native.Mathlib.Nat.{mul-one, one-mul, mul-comm, mul-assoc, mul-left-comm}
+use Prim.Native.Nat.{ℕ, _+_, _*_, _≤_}
+use native.Mathlib.Nat.{mul-one, one-mul, mul-assoc}
 use native.Mathlib.Omega.{arith}
 use lib.Dec.{lit≤}
 use lib.IntN.{ℤ, pos, _-ℤ_, _*ℤ_}
 use lib.Signed.{_≤ℤ_}
 use Rattle.line.specs.Ranges.{CurveInRange}
-use Rattle.accuracy.specs.Fractions.{Fraction, whole, nat, _⊖_, _⊗_}
+use Rattle.accuracy.specs.Fractions.{Fraction, whole, _⊖_, _⊗_}
 use Rattle.accuracy.specs.ExactElements.{documentTerms}
 use Rattle.accuracy.specs.Accuracy.{Within, ElementsWithin}
 use Rattle.accuracy.proofs.Parts.{plus, minus, plus-times, minus-times, times-plus, times-minus, difference-parts, le-parts}

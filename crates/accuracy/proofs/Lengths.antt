@@ -4,13 +4,13 @@ use mathlib.Core.Bool.{false}
 use Prim.Native.Nat.{ℕ, zero, _+_, _*_, _≤_, _<_}
 use native.Mathlib.Nat.{mul-add, add-mul, mul-assoc, mul-comm, mul-left-comm, suc-mul, mul-le-mul-right, mul-pos}
 use native.Mathlib.Omega.{arith}
-use lib.IntN.{ℤ, pos, negsuc, _+ℤ_, _*ℤ_}
+use lib.IntN.{ℤ, pos, negsuc, _*ℤ_}
 use lib.Signed.{leZ}
 use borrow.Author.Tests.{leb-false}
-use Rattle.accuracy.specs.Fractions.{Fraction, whole, nat, _⊕_, _⊘_, _≼_, _≺_}
+use Rattle.accuracy.specs.Fractions.{Fraction, whole, _⊕_, _⊘_, _≼_, _≺_}
 use Rattle.accuracy.specs.Accuracy.{tenths}
-use Rattle.accuracy.proofs.Parts.{plus, minus, plus-times, minus-times, sum-parts, no-minus, le-parts, lt-parts, parts-lt}
-use Rattle.accuracy.proofs.Nearness.{Near}
+use Rattle.accuracy.proofs.Parts.{plus, minus, plus-times, minus-times, no-minus, le-parts, lt-parts, parts-lt}
+use Rattle.accuracy.proofs.Nearness.{Near, sum-top}
 
 ruleset products = (mul-add, add-mul, mul-assoc, mul-comm, mul-left-comm)
 
@@ -67,9 +67,8 @@ forward-side : (u1 u2 v d e w1 w2 : ℕ) → w1 + u2 * e ≡ u1 * e + v * d + w2
 forward-side u1 u2 v d e w1 w2 h = simp products (omega (arith, simp products at (ap (λ (n : ℕ). n * d) h)))
 
 module _ (u v : Fraction) where
-  sum-top : minus (v .top) ≡ zero → plus ((u ⊕ v) .top) + minus (u .top) * v .under ≡ plus (u .top) * v .under + plus (v .top) * u .under + minus ((u ⊕ v) .top)
-  unfolding _⊕_
-  sum-top z = omega (arith, rw z at (simp (plus-times, minus-times) at (sum-parts (u .top *ℤ pos (v .under)) (v .top *ℤ pos (u .under)))))
+  moved : minus (v .top) ≡ zero → plus ((u ⊕ v) .top) + minus (u .top) * v .under ≡ plus (u .top) * v .under + plus (v .top) * u .under + minus ((u ⊕ v) .top)
+  moved z = omega (arith, rw z at (sum-top u v))
 
   pub not-back : minus (v .top) ≡ zero → u ≼ u ⊕ v
   unfolding _⊕_
@@ -78,7 +77,7 @@ module _ (u v : Fraction) where
         cross =
             le-parts (u .top *ℤ pos (u .under * v .under)) ((u ⊕ v) .top *ℤ pos (u .under))
             (rw (plus-times (u .top) (u .under * v .under), minus-times (u .top) (u .under * v .under), plus-times ((u ⊕ v) .top) (u .under), minus-times ((u ⊕ v) .top) (u .under))
-            (omega (arith, forward-side _ _ _ (u .under) (v .under) _ _ (sum-top z))));
+            (omega (arith, forward-side _ _ _ (u .under) (v .under) _ _ (moved z))));
       }
 
   pub onward : zero < plus (v .top) → u ≺ u ⊕ v
@@ -88,5 +87,5 @@ module _ (u v : Fraction) where
         cross =
             lt-parts (u .top *ℤ pos (u .under * v .under)) ((u ⊕ v) .top *ℤ pos (u .under))
             (rw (plus-times (u .top) (u .under * v .under), minus-times (u .top) (u .under * v .under), plus-times ((u ⊕ v) .top) (u .under), minus-times ((u ⊕ v) .top) (u .under))
-            (omega (arith, forward-side _ _ _ (u .under) (v .under) _ _ (sum-top (no-minus (v .top) p)), mul-pos (mul-pos p (u .above)) (u .above))));
+            (omega (arith, forward-side _ _ _ (u .under) (v .under) _ _ (moved (no-minus (v .top) p)), mul-pos (mul-pos p (u .above)) (u .above))));
       }

@@ -7,6 +7,7 @@ pub mod Series
 pub mod SineAndCosine
 pub mod Angles
 pub mod NearElements
+pub mod Ratio
 pub mod Tangent
 pub mod ElementsWithin
 pub mod NearStations

@@ -3,16 +3,15 @@ use mathlib.Core.Path.{_≡_}
 use Prim.Native.Nat.{ℕ, zero, suc, _+_, _*_, _≤_, _<_}
 use native.Mathlib.Decide.{decLt}
 use native.Mathlib.Omega.{arith}
-use lib.Dec.{ltb, lit≤}
-use lib.IntN.{ℤ, pos}
+use lib.Dec.{lit≤}
 use borrow.Author.Tests.{lt-ltb, le-ltb}
 use Rattle.line.specs.declared.Line.{Line}
 use Rattle.line.specs.Checks.{distanceAt, curveAt}
 use Rattle.line.specs.Ranges.{LineInRange}
-use Rattle.calculator.specs.Stations.{Points, spiralAt, arcAt, tangentAt, tangentBefore, tangentAfter, straightAt, formerST, pointsAt, endOf}
+use Rattle.calculator.specs.Stations.{spiralAt, arcAt, tangentAt, tangentBefore, tangentAfter, straightAt, formerST, pointsAt, endOf}
 use Rattle.calculator.proofs.StraightSteps.{after-inside, after-end}
-use Rattle.accuracy.specs.Fractions.{Fraction, nat}
-use Rattle.accuracy.specs.ExactStations.{ExactPoints, exactSpiralAt, exactArcAt, exactTangentAt, exactTangentBefore, exactTangentAfter, exactStraightAt, exactFormerST, exactPointsAt, exactEnd}
+use Rattle.accuracy.specs.Fractions.{nat}
+use Rattle.accuracy.specs.ExactStations.{exactSpiralAt, exactArcAt, exactTangentAt, exactTangentBefore, exactTangentAfter, exactStraightAt, exactFormerST, exactPointsAt, exactEnd}
 use Rattle.accuracy.proofs.Nearness.{Near, loosen, near-nat, near-sum, near-difference}
 use Rattle.accuracy.proofs.NearElements.{near-D}
 use Rattle.accuracy.proofs.Tangent.{near-TT}

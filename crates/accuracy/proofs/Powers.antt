@@ -1,13 +1,13 @@
 -- Powers of a fraction that is not below zero, and how the terms of a power series follow from each other. Assumes nothing.
 use mathlib.Core.Path.{_≡_, refl, sym, _∙_, ap}
-use Prim.Native.Nat.{ℕ, zero, suc, _+_, _*_, _≤_, _<_}
+use Prim.Native.Nat.{ℕ, zero, suc, _+_, _*_, _<_}
 use Prim.Native.Nat as Natural
-use native.Mathlib.Nat.{mul-add, add-mul, mul-assoc, mul-comm, mul-left-comm, mul-le-mul-left, mul-pos, zero-lt-suc, not-suc-le-zero, add-zero, add-suc, mul-one, one-mul, pow-zero, pow-suc}
+use native.Mathlib.Nat.{mul-add, add-mul, mul-assoc, mul-comm, mul-left-comm, mul-pos, zero-lt-suc, not-suc-le-zero, add-zero, add-suc, mul-one, one-mul, pow-zero, pow-suc}
 use native.Mathlib.Numerals.{add-one, add-two}
 use native.Mathlib.Omega.{arith}
 use lib.Dec.{lit<}
 use lib.IntN.{pos}
-use Rattle.accuracy.specs.Fractions.{Fraction, whole, nat, _⊗_, _^_, _⊘_}
+use Rattle.accuracy.specs.Fractions.{Fraction, whole, _⊗_, _^_, _⊘_}
 use Rattle.accuracy.specs.ExactElements.{factorial}
 use Rattle.accuracy.proofs.Parts.{plus, minus, as-pos}
 use Rattle.accuracy.proofs.Nearness.{Same}

@@ -1,17 +1,17 @@
 -- Alternating sums: the errors of a sum are computed from those of its terms, and whatever number of further terms the exact sum has adds
 -- next to nothing, since each is at most half of the one before. Assumes nothing.
-use mathlib.Core.Path.{_≡_, refl, ap}
+use mathlib.Core.Path.{_≡_}
 use mathlib.Core.Bool.{Bool, true, false, cond}
 use Prim.Native.Nat.{ℕ, zero, suc, _+_, _*_, _%_, _≤_, _<_}
-use native.Mathlib.Nat.{mul-add, add-mul, mul-assoc, mul-comm, mul-left-comm, mul-le-mul-left, mul-le-mul-right, zero-add, add-zero, add-suc, le-of-mul-le-mul-right}
+use native.Mathlib.Nat.{mul-add, add-mul, mul-assoc, mul-comm, mul-left-comm, mul-le-mul-left, zero-add, add-zero, add-suc, le-of-mul-le-mul-right}
 use native.Mathlib.Omega.{arith}
 use lib.Dec.{eqb}
-use lib.IntN.{ℤ, pos, +ℤ-idl, _+ℤ_, _-ℤ_, _*ℤ_}
+use lib.IntN.{ℤ, pos, _+ℤ_, _-ℤ_}
 use Rattle.elements.specs.WorkingRule.{scale, alternating}
-use Rattle.accuracy.specs.Fractions.{Fraction, whole, nat, _⊕_, _⊖_}
+use Rattle.accuracy.specs.Fractions.{Fraction, _⊕_, _⊖_}
 use Rattle.accuracy.specs.ExactElements.{alternatingSum}
-use Rattle.accuracy.proofs.Parts.{plus, minus, plus-times, minus-times, sum-parts, difference-parts}
-use Rattle.accuracy.proofs.Nearness.{Near, near-nat, near-sum, near-difference}
+use Rattle.accuracy.proofs.Parts.{plus, minus}
+use Rattle.accuracy.proofs.Nearness.{Side, Near, difference-top, sum-top, near-nat, near-sum, near-difference}
 use Rattle.accuracy.proofs.Terms.{Bound, Term}
 
 ruleset products = (mul-add, add-mul, mul-assoc, mul-comm, mul-left-comm)
@@ -47,78 +47,60 @@ near-alternating q v b terms (suc j) =
 
 -- ---- further exact terms
 
+-- One side of nearness at scale 10⁹, with room for twice the term t over e.
+record RoomySide (a1 a2 v1 v2 d t e x : ℕ) : Type 0 where
+  holds : 1000 * (a1 * d + scale * v2) * e + 2000 * (scale * t * d) ≤ (1000 * (a2 * d + scale * v1) + x * d) * e
+
 -- q is near v, and still is where v moves by twice t, either way.
 record Roomy (q : ℤ) (v t : Fraction) (short over : ℕ) : Type 0 where
-  least : 1000 * (minus q * v .under + scale * plus (v .top)) * t .under + 2000 * (scale * plus (t .top) * v .under)
-      ≤ (1000 * (plus q * v .under + scale * minus (v .top)) + short * v .under) * t .under
-  most : 1000 * (plus q * v .under + scale * minus (v .top)) * t .under + 2000 * (scale * plus (t .top) * v .under)
-      ≤ (1000 * (minus q * v .under + scale * plus (v .top)) + over * v .under) * t .under
+  least : RoomySide (minus q) (plus q) (minus (v .top)) (plus (v .top)) (v .under) (plus (t .top)) (t .under) short
+  most : RoomySide (plus q) (minus q) (plus (v .top)) (minus (v .top)) (v .under) (plus (t .top)) (t .under) over
 
 -- One fraction is not below zero, and at most the g-th part of another.
 pub record Smaller (g : ℕ) (u v : Fraction) : Type 0 where
   pub sign : minus (u .top) ≡ zero
   pub part : g * plus (u .top) * v .under ≤ plus (v .top) * u .under
 
--- One side of that, for a number with parts a1, a2, sums with v1, v2 over d and w1, w2 over d × e, and terms t over e and t′ over e′.
-roomy-side : (s a1 a2 v1 v2 d t e w1 w2 t′ e′ x : ℕ)
-    → w1 + v2 * e ≤ v1 * e + t * d + w2
-    → 2 * t′ * e ≤ t * e′
-    → 1000 * (a1 * d + s * v1) * e + 2000 * (s * t * d) ≤ (1000 * (a2 * d + s * v2) + x * d) * e
-    → 1000 * (a1 * (d * e) + s * w1) * e′ + 2000 * (s * t′ * (d * e)) ≤ (1000 * (a2 * (d * e) + s * w2) + x * (d * e)) * e′
-roomy-side s a1 a2 v1 v2 d t e w1 w2 t′ e′ x w f h =
-    simp products
-    (omega (
-      arith,
-      simp products at (mul-le-mul-left e′ h),
-      simp products at (mul-le-mul-left (s * e′) w),
-      simp products at (mul-le-mul-left (s * d) f),
-    ))
+-- The next sum, w over d × e, differs by t at the most; so there is room for twice t′, at most half of t.
+next-side : {a1 a2 v1 v2 d t e w1 w2 t′ e′ x : ℕ} → w2 + v1 * e ≤ v2 * e + t * d + w1 → 2 * t′ * e ≤ t * e′
+    → RoomySide a1 a2 v1 v2 d t e x → RoomySide a1 a2 w1 w2 (d * e) t′ e′ x
+next-side {d = d} {e′ = e′} w f h =
+    record {
+      holds =
+          simp products
+          (omega (
+            arith,
+            simp products at (mul-le-mul-left e′ (h .holds)),
+            simp products at (mul-le-mul-left (scale * e′) w),
+            simp products at (mul-le-mul-left (scale * d) f),
+          ));
+    }
 
-module _ {q : ℤ} {v t t′ : Fraction} {x y : ℕ} (sign : minus (t .top) ≡ zero) (half : Smaller 2 t′ t) (h : Roomy q v t x y) where
-  roomy-moved : (w : Fraction) → w .under ≡ v .under * t .under
-      → plus (w .top) + minus (v .top) * t .under ≤ plus (v .top) * t .under + plus (t .top) * v .under + minus (w .top)
-      → minus (w .top) + plus (v .top) * t .under ≤ minus (v .top) * t .under + plus (t .top) * v .under + plus (w .top)
-      → Roomy q w t′ x y
-  roomy-moved w e f g =
-      record {
-        least =
-            rw e
-            (roomy-side scale (minus q) (plus q) (plus (v .top)) (minus (v .top)) (v .under) (plus (t .top)) (t .under) (plus (w .top)) (minus (w .top))
-            (plus (t′ .top))
-            (t′ .under)
-            x
-            f
-            (half .part)
-            (h .least));
-        most =
-            rw e
-            (roomy-side scale (plus q) (minus q) (minus (v .top)) (plus (v .top)) (v .under) (plus (t .top)) (t .under) (minus (w .top)) (plus (w .top))
-            (plus (t′ .top))
-            (t′ .under)
-            y
-            g
-            (half .part)
-            (h .most));
-      }
+-- The next sum has room for the next term, whether this one is added or taken away.
+roomy-next : {q : ℤ} {v t t′ : Fraction} {x y : ℕ} → minus (t .top) ≡ zero → Smaller 2 t′ t → Roomy q v t x y → (away : Bool)
+    → Roomy q (cond away (v ⊖ t) (v ⊕ t)) t′ x y
+unfolding _⊖_ _⊕_
+roomy-next {v = v} {t = t} sign half h true =
+    let tops = rw sign at (difference-top v t) in
+    record {
+      least = next-side (omega (arith, tops)) (half .part) (h .least);
+      most = next-side (omega (arith, tops)) (half .part) (h .most);
+    }
+roomy-next {v = v} {t = t} sign half h false =
+    let tops = rw sign at (sum-top v t) in
+    record {
+      least = next-side (omega (arith, tops)) (half .part) (h .least);
+      most = next-side (omega (arith, tops)) (half .part) (h .most);
+    }
 
-  -- The next sum has room for the next term, whether this one is added or taken away.
-  roomy-next : (away : Bool) → Roomy q (cond away (v ⊖ t) (v ⊕ t)) t′ x y
-  unfolding _⊖_ _⊕_
-  roomy-next true = roomy-moved (v ⊖ t) refl (omega (arith, tops)) (omega (arith, tops))
-    where
-      tops : plus ((v ⊖ t) .top) + (minus (v .top) * t .under + plus (t .top) * v .under) ≡ plus (v .top) * t .under + minus ((v ⊖ t) .top)
-      tops = omega (arith, rw sign at (simp (plus-times, minus-times) at (difference-parts (v .top *ℤ pos (t .under)) (t .top *ℤ pos (v .under)))))
-  roomy-next false = roomy-moved (v ⊕ t) refl (omega (arith, tops)) (omega (arith, tops))
-    where
-      tops : plus ((v ⊕ t) .top) + minus (v .top) * t .under ≡ plus (v .top) * t .under + plus (t .top) * v .under + minus ((v ⊕ t) .top)
-      tops = omega (arith, rw sign at (simp (plus-times, minus-times) at (sum-parts (v .top *ℤ pos (t .under)) (t .top *ℤ pos (v .under)))))
+first-side : {a1 a2 v1 v2 d t e x : ℕ} (T : ℕ) → 2000 * (scale * t) ≤ T * e → Side scale a1 a2 v1 v2 d x → RoomySide a1 a2 v1 v2 d t e (x + T)
+first-side {d = d} {e = e} T k h =
+    record {
+      holds = simp products (omega (arith, simp products at (mul-le-mul-left e (h .holds)), simp products at (mul-le-mul-left d k)));
+    }
 
-roomy-from : (P Q w x d e T : ℕ) → P ≤ Q + x * d → 2000 * w ≤ T * e → P * e + 2000 * (w * d) ≤ (Q + (x + T) * d) * e
-roomy-from P Q w x d e T h k =
-    simp products (omega (arith, simp products at (mul-le-mul-left e h), simp products at (mul-le-mul-left d k)))
-
-roomy-ends : (P Q w x d e : ℕ) → zero < e → P * e + 2000 * w ≤ (Q + x * d) * e → P ≤ Q + x * d
-roomy-ends P Q w x d e above h = le-of-mul-le-mul-right (omega (arith, h)) above
+last-side : {a1 a2 v1 v2 d t e x : ℕ} → zero < e → RoomySide a1 a2 v1 v2 d t e x → Side scale a1 a2 v1 v2 d x
+last-side above h = record { holds = le-of-mul-le-mul-right (omega (arith, h)) above }
 
 -- A sum that is near stays so with m further terms, if each term from the next on is at most half of the one before. The errors grow by T,
 -- which is at least twice the next term, in thousandths of a unit.
@@ -126,21 +108,11 @@ pub near-further : (q : ℤ) (v : ℕ → Fraction) {x y : ℕ} (j T : ℕ) → 
     → 2000 * (scale * plus (v j .top)) ≤ T * v j .under → Near scale q (alternatingSum v j) x y
     → (m : ℕ) → Near scale q (alternatingSum v (j + m)) (x + T) (y + T)
 unfolding alternatingSum
-near-further q v {x} {y} j T signs halves small h m = ended (further m)
+near-further q v {x} {y} j T signs halves small h m =
+    let r = further m in
+    record { least = last-side (v (j + m) .above) (r .least); most = last-side (v (j + m) .above) (r .most) }
   where
     further : (m : ℕ) → Roomy q (alternatingSum v (j + m)) (v (j + m)) (x + T) (y + T)
-    further zero =
-        rw (add-zero j)
-        (record {
-          least = roomy-from _ _ _ x (alternatingSum v j .under) (v j .under) T (h .least) small;
-          most = roomy-from _ _ _ y (alternatingSum v j .under) (v j .under) T (h .most) small;
-        })
+    further zero = rw (add-zero j) (record { least = first-side T small (h .least); most = first-side T small (h .most) })
     further (suc m) =
         rw (add-suc j m) (roomy-next (signs (j + m)) (halves (j + m) (omega arith)) (further m) (eqb ((j + m) % 2) 1))
-
-    ended : {w t : Fraction} → Roomy q w t (x + T) (y + T) → Near scale q w (x + T) (y + T)
-    ended {w} {t} r =
-        record {
-          least = roomy-ends _ _ _ (x + T) (w .under) (t .under) (t .above) (r .least);
-          most = roomy-ends _ _ _ (y + T) (w .under) (t .under) (t .above) (r .most);
-        }

@@ -1,16 +1,16 @@
 -- The rule's sine and cosine against the exact power series of seven terms and more. Assumes nothing.
-use mathlib.Core.Path.{_≡_, refl, sym, _∙_, ap, subst}
+use mathlib.Core.Path.{_≡_, refl, _∙_, ap, subst}
 use Prim.Native.Nat.{ℕ, zero, suc, _+_, _-_, _*_, _/_, _≤_, _<_}
-use native.Mathlib.Nat.{mul-add, add-mul, mul-assoc, mul-comm, mul-left-comm, mul-le-mul, mul-le-mul-left, mul-le-mul-right, mul-pos, le-of-mul-le-mul-right}
+use native.Mathlib.Nat.{mul-add, add-mul, mul-assoc, mul-comm, mul-left-comm, mul-le-mul, mul-le-mul-left, mul-pos, le-of-mul-le-mul-right}
 use native.Mathlib.Omega.{arith}
 use lib.Dec.{lit<, lit≤}
-use lib.IntN.{ℤ, pos}
+use lib.IntN.{pos}
 use Rattle.elements.specs.WorkingRule.{scale, term, alternating, sineOf, cosineOf}
 use Rattle.accuracy.specs.Fractions.{Fraction, whole, nat, _⊗_, _^_, _⊘_}
 use Rattle.accuracy.specs.ExactElements.{alternatingSum, factorial, exactSine, exactCosine}
 use Rattle.accuracy.proofs.Parts.{plus, minus, as-pos}
 use Rattle.accuracy.proofs.Nearness.{Near, Same, near-nat}
-use Rattle.accuracy.proofs.Powers.{part-top, part-under, over-one, power-one, term-sign, next-term}
+use Rattle.accuracy.proofs.Powers.{part-top, part-under, over-one, power-one, next-term}
 use Rattle.accuracy.proofs.Terms.{Bound, Term, reach, next, reaches, term-same, term-next, term-power}
 use Rattle.accuracy.proofs.Series.{errors, Smaller, near-alternating, near-further}
 

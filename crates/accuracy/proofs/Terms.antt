@@ -1,8 +1,8 @@
 -- Terms at scale 10⁹: what is known of a term of the rule, held against an exact one, is computed from what is known of its factors. Assumes
 -- nothing.
 use mathlib.Core.Path.{_≡_, refl}
-use Prim.Native.Nat.{ℕ, zero, suc, _+_, _*_, _-_, _/_, _≤_, _<_}
-use native.Mathlib.Nat.{mul-add, add-mul, mul-assoc, mul-comm, mul-left-comm, mul-one, mul-le-mul, mul-le-mul-left, mul-le-mul-right, mul-pos, zero-lt-suc, lt-div-mul-add, div-mul-le-self, le-div-iff-mul-le, le-trans, le-of-mul-le-mul-right}
+use Prim.Native.Nat.{ℕ, zero, _+_, _*_, _-_, _/_, _≤_, _<_}
+use native.Mathlib.Nat.{mul-add, add-mul, mul-assoc, mul-comm, mul-left-comm, mul-le-mul, mul-le-mul-right, mul-pos, zero-lt-suc, lt-div-mul-add, div-mul-le-self, le-div-iff-mul-le, le-trans}
 use native.Mathlib.Omega.{arith}
 use lib.Dec.{lit<}
 use lib.IntN.{ℤ, pos, negsuc}
@@ -47,7 +47,7 @@ reaches {q} {v} {b} h =
     simp products
     (omega (
       arith,
-      simp products at (h .near .least),
+      simp products at (h .near .least .holds),
       h .sign,
       mul-le-mul-right (v .under) (h .fits),
       simp products at (mul-le-mul-right (v .under) (below (b .short))),
