@@ -4,6 +4,7 @@ pub mod Nearness
 pub mod Powers
 pub mod Terms
 pub mod Series
+pub mod PowerSeries
 pub mod SineAndCosine
 pub mod Angles
 pub mod NearElements

@@ -6,7 +6,7 @@ use native.Mathlib.Omega.{arith}
 use lib.IntN.{pos}
 use Rattle.numbers.specs.Whole.{Between}
 use Rattle.numbers.proofs.Differences.{minus-le}
-use Rattle.elements.specs.WorkingRule.{scale, term, alternating, sineOf, cosineOf}
+use Rattle.elements.specs.WorkingRule.{scale, term, alternating, sineOf, cosineOf, sineDivisor, cosineDivisor}
 use Rattle.elements.proofs.Alternating.{falling-least}
 
 -- The greatest angle: half of 120°, and more than a spiral's half radian.
@@ -65,7 +65,7 @@ square-most q h = omega (arith, mul-le-mul h h)
 
 pub sine-between : (q : ℕ) → q ≤ greatestAngle → Between (sineOf q) (q - q * (q * q / scale) / (scale * 6)) q
 unfolding sineOf
-sine-between q h = series-between (λ j. 2 * j * (2 * j + 1)) q (q * q / scale) 5 falls
+sine-between q h = series-between sineDivisor q (q * q / scale) 5 falls
   where
     falls : (j : ℕ) → q * q / scale ≤ scale * (2 * suc j * (2 * suc j + 1))
     falls j =
@@ -74,7 +74,7 @@ sine-between q h = series-between (λ j. 2 * j * (2 * j + 1)) q (q * q / scale) 
 
 pub cosine-between : (q : ℕ) → q ≤ greatestAngle → Between (cosineOf q) (scale - scale * (q * q / scale) / (scale * 2)) scale
 unfolding cosineOf
-cosine-between q h = series-between (λ j. (2 * j - 1) * (2 * j)) scale (q * q / scale) 5 falls
+cosine-between q h = series-between cosineDivisor scale (q * q / scale) 5 falls
   where
     falls : (j : ℕ) → q * q / scale ≤ scale * ((2 * suc j - 1) * (2 * suc j))
     falls j =

@@ -37,13 +37,20 @@ alternating terms zero = pos (terms 0)
 alternating terms (suc j) =
     cond (eqb (suc j % 2) 1) (alternating terms j -ℤ pos (terms (suc j))) (alternating terms j +ℤ pos (terms (suc j)))
 
--- "Sine of q: z = q × q / 10⁹. Terms: q, then .. 2j × (2j + 1), j = 1 to 6"
-unfoldable pub sineOf : ℕ → ℤ
-sineOf q = alternating (term (λ j. 2 * j * (2 * j + 1)) q (q * q / scale)) 6
+-- "2j × (2j + 1)", and for the cosine "(2j − 1) × 2j"
+abbrev pub sineDivisor : ℕ → ℕ
+sineDivisor j = 2 * j * (2 * j + 1)
 
--- "Cosine: terms 10⁹, then .. (2j − 1) × 2j, j = 1 to 6, likewise."
+abbrev pub cosineDivisor : ℕ → ℕ
+cosineDivisor j = (2 * j - 1) * (2 * j)
+
+-- "Sine of q: z = q × q / 10⁹. Terms: q, then .., j = 1 to 6"
+unfoldable pub sineOf : ℕ → ℤ
+sineOf q = alternating (term sineDivisor q (q * q / scale)) 6
+
+-- "Cosine: terms 10⁹, then .., j = 1 to 6, likewise."
 unfoldable pub cosineOf : ℕ → ℤ
-cosineOf q = alternating (term (λ j. (2 * j - 1) * (2 * j)) scale (q * q / scale)) 6
+cosineOf q = alternating (term cosineDivisor scale (q * q / scale)) 6
 
 -- "t2 = t × t / 10⁹, t3 = t2 × t / 10⁹, t4 = t2 × t2 / 10⁹."
 unfoldable pub t2 : ℕ → ℕ

@@ -3,7 +3,7 @@ use mathlib.Core.Path.{_≡_, refl, _∙_, ap}
 use Prim.Native.Nat.{ℕ, _-_, _*_}
 use lib.IntN.{pos}
 use Rattle.numbers.proofs.Ranges.{at-least, at-most}
-use Rattle.elements.specs.WorkingRule.{scale, term, alternating, cosineOf}
+use Rattle.elements.specs.WorkingRule.{scale, term, alternating, cosineOf, sineDivisor, cosineDivisor}
 use Rattle.elements.proofs.SineAndCosine.{cosine-above}
 use borrow.Author.Needs.{needs}
 use Rattle.elements.proofs.series.cosine.Statement.{statement}
@@ -20,8 +20,8 @@ unfolding cosineOf
 returns c =
     let q = c .before .before .args .q in
     let is : pos (c .series .result) ≡ cosineOf q =
-    c .series .ensures (λ j. (2 * j - 1) * (2 * j)) refl refl refl refl refl refl
-    ∙ ap (λ (z : ℕ). alternating (term (λ j. (2 * j - 1) * (2 * j)) scale z) 6) (c .before .square .ensures .0) in
+    c .series .ensures cosineDivisor refl refl refl refl refl refl
+    ∙ ap (λ (z : ℕ). alternating (term cosineDivisor scale z) 6) (c .before .square .ensures .0) in
     let b = cosine-above q (c .before .before .pre) in
     (is, at-least is b, at-most is b)
 

@@ -3,7 +3,7 @@ use mathlib.Core.Path.{_≡_, refl, _∙_, ap}
 use Prim.Native.Nat.{ℕ, _+_, _*_}
 use lib.IntN.{pos}
 use Rattle.numbers.proofs.Ranges.{at-most}
-use Rattle.elements.specs.WorkingRule.{term, alternating, sineOf}
+use Rattle.elements.specs.WorkingRule.{term, alternating, sineOf, sineDivisor}
 use Rattle.elements.proofs.SineAndCosine.{sine-between}
 use borrow.Author.Needs.{needs}
 use Rattle.elements.proofs.series.sine.Statement.{statement}
@@ -20,8 +20,8 @@ unfolding sineOf
 returns c =
     let q = c .before .before .args .q in
     let is : pos (c .series .result) ≡ sineOf q =
-    c .series .ensures (λ j. 2 * j * (2 * j + 1)) refl refl refl refl refl refl
-    ∙ ap (λ (z : ℕ). alternating (term (λ j. 2 * j * (2 * j + 1)) q z) 6) (c .before .square .ensures .0) in
+    c .series .ensures sineDivisor refl refl refl refl refl refl
+    ∙ ap (λ (z : ℕ). alternating (term sineDivisor q z) 6) (c .before .square .ensures .0) in
     (is, at-most is (sine-between q (c .before .before .pre)))
 
 pub sine-spec : {M : Type 1} → statement M
