@@ -5,15 +5,21 @@
 //! results are held against.
 //!
 //! The paper is in [`elements`], [`line`], [`refusal`], [`road_tables`] and
-//! [`stations`]; the text forms are in [`text`], [`curve`] and
-//! [`station_call`]; what the stored tables are made of is in [`samples`].
+//! [`stations`], its sums in fractions are in [`exact`]; the text forms are in
+//! [`text`], [`curve`] and [`station_call`]; what the stored tables are made of
+//! is in [`samples`]. How far rule and fractions lie apart is in [`accuracy`],
+//! looked for by [`search`] and printed by [`accuracy_table`].
 
+pub mod accuracy;
+pub mod accuracy_table;
 pub mod curve;
 pub mod elements;
+pub mod exact;
 pub mod line;
 pub mod refusal;
 pub mod road_tables;
 pub mod samples;
+pub mod search;
 pub mod station_call;
 pub mod stations;
 pub mod text;

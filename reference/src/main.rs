@@ -1,9 +1,12 @@
-//! The reference's command line: makes samples and works them.
+//! The reference's command line: makes samples and works them, and searches for
+//! large differences between the working rule and the fractions.
 
+use reference::accuracy_table::accuracy_table;
 use reference::curve::Curve;
 use reference::elements::{elements, Elements};
 use reference::samples::curves::sample_curves;
 use reference::samples::lines::sample_lines;
+use reference::search::search;
 use reference::station_call::StationCall;
 use reference::text::lines;
 use std::ffi::OsString;
@@ -16,6 +19,7 @@ usage: reference samples SEED COUNT
        reference elements
        reference lines SEED COUNT
        reference stations
+       reference accuracy SEED CURVES LINES
 
 samples   prints COUNT sample curves, one per line: A R L
           (deflection in seconds, radius and spiral length in mm). The list
@@ -34,14 +38,31 @@ stations  reads such lines on standard input and prints two lines for each:
           the count of stations, or REFUSED number place; then the whole row
           after the call (stations in micrometres). Before the call its first
           entry holds 1, its second 2, and so on.
+accuracy  works CURVES curves and LINES lines by the working rule and in
+          fractions, climbs from some of them to larger differences, and prints
+          a table of the largest, rule minus exact, each with the curve where it
+          was seen; and of the shortest exact straight and arc that are accepted
+          and the longest that are refused 15 and 14. Always the same for the
+          same SEED.
 ";
 
 /// What the arguments ask for.
 enum Request {
-    Samples { seed: u64, count: usize },
+    Samples {
+        seed: u64,
+        count: usize,
+    },
     Elements,
-    Lines { seed: u64, count: usize },
+    Lines {
+        seed: u64,
+        count: usize,
+    },
     Stations,
+    Accuracy {
+        seed: u64,
+        curves: usize,
+        lines: usize,
+    },
 }
 
 fn main() -> ExitCode {
@@ -76,6 +97,11 @@ fn read_arguments(arguments: impl Iterator<Item = OsString>) -> Option<Request> 
             count: count.parse().ok()?,
         }),
         ["stations"] => Some(Request::Stations),
+        ["accuracy", seed, curves, lines] => Some(Request::Accuracy {
+            seed: seed.parse().ok()?,
+            curves: curves.parse().ok()?,
+            lines: lines.parse().ok()?,
+        }),
         _ => None,
     }
 }
@@ -86,6 +112,11 @@ fn answer(request: Request) -> io::Result<()> {
         Request::Elements => print(lines(&standard_input()?).map(elements_text)),
         Request::Lines { seed, count } => print(sample_lines(seed, count)),
         Request::Stations => print(lines(&standard_input()?).map(stations_text)),
+        Request::Accuracy {
+            seed,
+            curves,
+            lines,
+        } => print(accuracy_table(&search(seed, curves, lines)).into_iter()),
     }
 }
 

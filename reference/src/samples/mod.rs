@@ -1,11 +1,11 @@
 //! The samples of the stored tables. The same seed gives the same list on every
-//! machine.
+//! machine. The search for large differences uses their dice, limits and roads.
 
 pub mod curves;
+pub mod dice;
+pub mod limits;
 pub mod lines;
+pub mod roads;
 
-mod dice;
 mod faults;
-mod limits;
 mod line_edges;
-mod roads;

@@ -132,7 +132,7 @@ fn road_deflection(dice: &mut Dice, r: u32, l: u32) -> u32 {
 }
 
 /// Distances a little longer than the tangents need.
-fn fit_distances(dice: &mut Dice, line: &mut Line) {
+pub fn fit_distances(dice: &mut Dice, line: &mut Line) {
     for i in 0..=line.curve_count() {
         line.distances[i] = least_distance(line, i) + spare_length(dice);
     }

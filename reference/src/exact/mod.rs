@@ -1,0 +1,7 @@
+//! Elements and stations in fractions, nothing rounded (document 01, Clerk's
+//! sums). All lengths are in mm.
+
+pub mod elements;
+pub mod fraction;
+pub mod stations;
+pub mod whole;
