@@ -2,17 +2,16 @@
 use mathlib.Core.Path.{_≡_, ap}
 use mathlib.Core.Bool.{false}
 use Prim.Native.Nat.{ℕ, zero, _+_, _*_, _≤_, _<_}
-use native.Mathlib.Nat.{mul-add, add-mul, mul-assoc, mul-comm, mul-left-comm, suc-mul, mul-le-mul-right, mul-pos}
+use native.Mathlib.Nat.{add-mul, mul-assoc, suc-mul, mul-le-mul-right, mul-pos}
 use native.Mathlib.Omega.{arith}
 use lib.IntN.{ℤ, pos, negsuc, _*ℤ_}
 use lib.Signed.{leZ}
 use borrow.Author.Tests.{leb-false}
+use Rattle.numbers.proofs.Products.{products}
 use Rattle.accuracy.specs.Fractions.{Fraction, whole, _⊕_, _⊘_, _≼_, _≺_}
 use Rattle.accuracy.specs.Accuracy.{tenths}
 use Rattle.accuracy.proofs.Parts.{plus, minus, plus-times, minus-times, no-minus, le-parts, lt-parts, parts-lt}
 use Rattle.accuracy.proofs.Nearness.{Near, sum-top}
-
-ruleset products = (mul-add, add-mul, mul-assoc, mul-comm, mul-left-comm)
 
 -- A number of m µm and more is near a length above k tenths of a mm.
 pub longer : {q : ℕ} {v : Fraction} {x y : ℕ} (m k : ℕ) → Near 1000 (pos q) v x y → m ≤ q → 100000 * k + y < 1000 * m → tenths k ≺ v

@@ -2,14 +2,13 @@
 -- operation. Assumes nothing.
 use mathlib.Core.Path.{_≡_, refl, ap, subst}
 use Prim.Native.Nat.{ℕ, zero, suc, _+_, _*_, _≤_, _<_}
-use native.Mathlib.Nat.{mul-add, add-mul, mul-assoc, mul-comm, mul-left-comm, mul-one, one-mul, mul-le-mul-left, mul-le-mul-right, le-of-mul-le-mul-right, not-suc-le-zero}
+use native.Mathlib.Nat.{mul-one, one-mul, mul-le-mul-left, mul-le-mul-right, le-of-mul-le-mul-right, not-suc-le-zero}
 use native.Mathlib.Omega.{arith}
 use lib.IntN.{ℤ, pos, _+ℤ_, _-ℤ_, _*ℤ_}
 use Rattle.numbers.specs.Whole.{down, Between}
+use Rattle.numbers.proofs.Products.{products}
 use Rattle.accuracy.specs.Fractions.{Fraction, whole, nat, _⊕_, _⊖_, _⊗_, _⊘_}
 use Rattle.accuracy.proofs.Parts.{plus, minus, plus-times, minus-times, times-plus, times-minus, sum-parts, difference-parts, down-most, down-least, as-pos}
-
-ruleset products = (mul-add, add-mul, mul-assoc, mul-comm, mul-left-comm)
 
 -- One side of nearness: a number with the parts a1 and a2 is at most s times the fraction with u1 and u2 over d, and x thousandths of a unit.
 pub record Side (s a1 a2 u1 u2 d x : ℕ) : Type 0 where

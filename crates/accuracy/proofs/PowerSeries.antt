@@ -2,10 +2,11 @@
 -- nothing.
 use mathlib.Core.Path.{_≡_, _∙_, ap, subst}
 use Prim.Native.Nat.{ℕ, zero, suc, _+_, _-_, _*_, _≤_, _<_}
-use native.Mathlib.Nat.{mul-add, add-mul, mul-assoc, mul-comm, mul-left-comm, mul-le-mul, mul-le-mul-left, mul-pos, le-of-mul-le-mul-right}
+use native.Mathlib.Nat.{mul-comm, mul-le-mul, mul-le-mul-left, mul-pos, le-of-mul-le-mul-right}
 use native.Mathlib.Omega.{arith}
 use lib.Dec.{lit<}
 use lib.IntN.{pos}
+use Rattle.numbers.proofs.Products.{products}
 use Rattle.elements.specs.WorkingRule.{scale, term, alternating}
 use Rattle.accuracy.specs.Fractions.{Fraction, _⊗_, _^_, _⊘_}
 use Rattle.accuracy.specs.ExactElements.{alternatingSum, factorial}
@@ -14,8 +15,6 @@ use Rattle.accuracy.proofs.Nearness.{Near, Same}
 use Rattle.accuracy.proofs.Powers.{part-top, part-under, next-term}
 use Rattle.accuracy.proofs.Terms.{Bound, Term, reach, next, reaches, term-same, term-next}
 use Rattle.accuracy.proofs.Series.{errors, Smaller, near-alternating, near-further}
-
-ruleset products = (mul-add, add-mul, mul-assoc, mul-comm, mul-left-comm)
 
 -- What is known of term j of the rule, computed from the first term and the square.
 abbrev pub boundAt : (ℕ → ℕ) → Bound → Bound → ℕ → Bound
@@ -78,7 +77,6 @@ module _ (divisor exponent : ℕ → ℕ) (steps : (j : ℕ) → exponent (suc j
     smaller : (g j : ℕ) → g * reach c ≤ scale * divisor (suc j) → Smaller g (exact v (suc j)) (exact v j)
     smaller g j h =
         record {
-          sign = terms (suc j) .sign;
           part =
               smaller-side g (plus (exact v j .top)) (exact v j .under) (plus ((v ^ 2) .top)) ((v ^ 2) .under) (divisor (suc j))
               (plus (exact v (suc j) .top))
@@ -89,7 +87,7 @@ module _ (divisor exponent : ℕ → ℕ) (steps : (j : ℕ) → exponent (suc j
               (bounded g (plus ((v ^ 2) .top)) ((v ^ 2) .under) (divisor (suc j)) (reach c) (reaches square) h);
         }
 
-    -- Each term after the eighth is at most half of the one before.
+    -- The divisors of the terms after the eighth: each of these is at most half of the one before.
     later : (i : ℕ) → 7 ≤ i → 12 ≤ divisor (suc i)
     later (suc i) h = rw (divides (suc i), steps i) (mul-le-mul {n₁ = 3} {m₁ = 4} (omega arith) (omega arith))
 

@@ -2,17 +2,16 @@
 use mathlib.Core.Path.{_≡_, refl, sym, _∙_, ap}
 use Prim.Native.Nat.{ℕ, zero, suc, _+_, _*_, _<_}
 use Prim.Native.Nat as Natural
-use native.Mathlib.Nat.{mul-add, add-mul, mul-assoc, mul-comm, mul-left-comm, mul-pos, zero-lt-suc, not-suc-le-zero, add-zero, add-suc, mul-one, one-mul, pow-zero, pow-suc}
+use native.Mathlib.Nat.{mul-assoc, mul-pos, zero-lt-suc, not-suc-le-zero, add-zero, add-suc, mul-one, one-mul, pow-zero, pow-suc}
 use native.Mathlib.Numerals.{add-one, add-two}
 use native.Mathlib.Omega.{arith}
 use lib.Dec.{lit<}
 use lib.IntN.{pos}
+use Rattle.numbers.proofs.Products.{products}
 use Rattle.accuracy.specs.Fractions.{Fraction, whole, _⊗_, _^_, _⊘_}
 use Rattle.accuracy.specs.ExactElements.{factorial}
 use Rattle.accuracy.proofs.Parts.{plus, minus, as-pos}
 use Rattle.accuracy.proofs.Nearness.{Same}
-
-ruleset products = (mul-add, add-mul, mul-assoc, mul-comm, mul-left-comm)
 
 -- ---- a quotient by a natural number
 
@@ -49,7 +48,7 @@ module _ (v : Fraction) (sign : minus (v .top) ≡ zero) where
 pub same-naturals : {u v : Fraction} (a b : ℕ) → u .top ≡ pos a → v .top ≡ pos b → a * v .under ≡ b * u .under → Same u v
 same-naturals {u} {v} a b p q e = record { cross = rw (p, q) (omega (arith, e)) }
 
--- A whole power of a power, the first power, and a quotient by one.
+-- A product of powers, the first power, and a quotient by one.
 pub power-sum : (v : Fraction) → minus (v .top) ≡ zero → (a b : ℕ) → Same (v ^ a ⊗ v ^ b ⊘ 1) (v ^ (a + b))
 unfolding _⊗_
 power-sum v sign a b =
@@ -94,9 +93,6 @@ module _ (v : Fraction) (sign : minus (v .top) ≡ zero) (a : ℕ) where
 
   term-under : (v ^ a ⊘ factorial a) .under ≡ Natural._^_ (v .under) a * factorial a
   term-under = part-under (v ^ a) (factorial-above a) ∙ ap (λ (n : ℕ). n * factorial a) (power-under v sign a)
-
-  pub term-sign : minus ((v ^ a ⊘ factorial a) .top) ≡ zero
-  term-sign = ap minus term-top
 
 arranged : (p p′ r d d′ e f c : ℕ) → p * p′ ≡ r → d * d′ ≡ e → p * p′ * (e * (f * c)) ≡ r * (d * f * d′ * c)
 arranged p p′ r d d′ e f c h k = rw (sym h, sym k) (simp products)

@@ -1,16 +1,15 @@
 -- A quotient of two numbers above zero, and the exact quotient of the fractions they are near. Assumes nothing.
 use mathlib.Core.Path.{_≡_, refl, _∙_, ap}
 use Prim.Native.Nat.{ℕ, zero, suc, _+_, _*_, _/_, _≤_, _<_}
-use native.Mathlib.Nat.{mul-add, add-mul, mul-assoc, mul-comm, mul-left-comm, mul-one, zero-mul, mul-le-mul-left, mul-le-mul-right, le-of-mul-le-mul-right, div-mul-le-self, lt-div-mul-add, not-suc-le-zero}
+use native.Mathlib.Nat.{mul-assoc, mul-one, zero-mul, mul-le-mul-left, mul-le-mul-right, le-of-mul-le-mul-right, div-mul-le-self, lt-div-mul-add, not-suc-le-zero}
 use native.Mathlib.Omega.{arith}
 use lib.IntN.{ℤ, pos, negsuc, _*ℤ_}
+use Rattle.numbers.proofs.Products.{products}
 use Rattle.elements.specs.WorkingRule.{scale}
 use Rattle.accuracy.specs.Fractions.{Fraction, whole, nat, _⊗_, over, ratio}
 use Rattle.accuracy.proofs.Parts.{plus, minus, plus-times, minus-times, no-minus}
 use Rattle.accuracy.proofs.Nearness.{Side, Near, near-of}
 use Rattle.accuracy.proofs.Powers.{part-top, part-under}
-
-ruleset products = (mul-add, add-mul, mul-assoc, mul-comm, mul-left-comm)
 
 -- ---- a fraction near a number that is above its error is above zero
 

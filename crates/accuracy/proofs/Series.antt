@@ -3,18 +3,17 @@
 use mathlib.Core.Path.{_≡_}
 use mathlib.Core.Bool.{Bool, true, false, cond}
 use Prim.Native.Nat.{ℕ, zero, suc, _+_, _*_, _%_, _≤_, _<_}
-use native.Mathlib.Nat.{mul-add, add-mul, mul-assoc, mul-comm, mul-left-comm, mul-le-mul-left, zero-add, add-zero, add-suc, le-of-mul-le-mul-right}
+use native.Mathlib.Nat.{mul-le-mul-left, zero-add, add-zero, add-suc, le-of-mul-le-mul-right}
 use native.Mathlib.Omega.{arith}
 use lib.Dec.{eqb}
 use lib.IntN.{ℤ, pos, _+ℤ_, _-ℤ_}
+use Rattle.numbers.proofs.Products.{products}
 use Rattle.elements.specs.WorkingRule.{scale, alternating}
 use Rattle.accuracy.specs.Fractions.{Fraction, _⊕_, _⊖_}
 use Rattle.accuracy.specs.ExactElements.{alternatingSum}
 use Rattle.accuracy.proofs.Parts.{plus, minus}
 use Rattle.accuracy.proofs.Nearness.{Side, Near, difference-top, sum-top, near-nat, near-sum, near-difference}
 use Rattle.accuracy.proofs.Terms.{Bound, Term}
-
-ruleset products = (mul-add, add-mul, mul-assoc, mul-comm, mul-left-comm)
 
 -- ---- the terms that the rule has
 
@@ -56,9 +55,8 @@ record Roomy (q : ℤ) (v t : Fraction) (short over : ℕ) : Type 0 where
   least : RoomySide (minus q) (plus q) (minus (v .top)) (plus (v .top)) (v .under) (plus (t .top)) (t .under) short
   most : RoomySide (plus q) (minus q) (plus (v .top)) (minus (v .top)) (v .under) (plus (t .top)) (t .under) over
 
--- One fraction is not below zero, and at most the g-th part of another.
+-- One fraction is at most the g-th part of another, neither below zero.
 pub record Smaller (g : ℕ) (u v : Fraction) : Type 0 where
-  pub sign : minus (u .top) ≡ zero
   pub part : g * plus (u .top) * v .under ≤ plus (v .top) * u .under
 
 -- The next sum, w over d × e, differs by t at the most; so there is room for twice t′, at most half of t.

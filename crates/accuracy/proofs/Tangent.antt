@@ -1,12 +1,13 @@
 -- The tangent TT, rule against exact, by tan of half the deflection. Assumes nothing.
 use mathlib.Core.Path.{_≡_, sym}
 use Prim.Native.Nat.{ℕ, zero, _+_, _*_, _/_, _≤_, _<_}
-use native.Mathlib.Nat.{mul-add, add-mul, mul-assoc, mul-comm, mul-left-comm, mul-le-mul-left, mul-le-mul-right, le-trans}
+use native.Mathlib.Nat.{mul-le-mul-left, mul-le-mul-right, le-trans}
 use native.Mathlib.Omega.{arith}
 use lib.Dec.{lit<, lit≤}
 use lib.IntN.{pos}
 use Rattle.numbers.specs.Whole.{Between}
 use Rattle.numbers.proofs.Ranges.{at-least}
+use Rattle.numbers.proofs.Products.{products}
 use Rattle.line.specs.Ranges.{CurveInRange}
 use Rattle.elements.specs.WorkingRule.{scale, halfAngle, sineOf, cosineOf, shiftOf, tanOf, tangentOf}
 use Rattle.elements.proofs.SineAndCosine.{sine-between, square-most}
@@ -18,8 +19,6 @@ use Rattle.accuracy.proofs.Nearness.{Near, near-value, near-nat, near-s
 use Rattle.accuracy.proofs.Angles.{near-half-sine, near-half-cosine}
 use Rattle.accuracy.proofs.Ratio.{above-zero, ratio-sign, ratio-most, near-ratio}
 use Rattle.accuracy.proofs.NearElements.{near-rounded, near-k, near-p}
-
-ruleset products = (mul-add, add-mul, mul-assoc, mul-comm, mul-left-comm)
 
 quotient-most : (u d n e a b : ℕ) → 1000 * (scale * u) ≤ 1000 * (a * d) + 4252 * d → 1000 * (b * e) ≤ 1000 * (scale * n) + 4709 * e
     → a ≤ 1047197551 → 451688645 ≤ b → scale * u * e ≤ 2318405787 * (d * n)

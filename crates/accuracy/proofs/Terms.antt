@@ -2,17 +2,16 @@
 -- nothing.
 use mathlib.Core.Path.{_≡_, refl}
 use Prim.Native.Nat.{ℕ, zero, _+_, _*_, _-_, _/_, _≤_, _<_}
-use native.Mathlib.Nat.{mul-add, add-mul, mul-assoc, mul-comm, mul-left-comm, mul-le-mul, mul-le-mul-right, mul-pos, zero-lt-suc, lt-div-mul-add, div-mul-le-self, le-div-iff-mul-le, le-trans}
+use native.Mathlib.Nat.{add-mul, mul-assoc, mul-le-mul, mul-le-mul-right, mul-pos, zero-lt-suc, lt-div-mul-add, div-mul-le-self, le-div-iff-mul-le, le-trans}
 use native.Mathlib.Omega.{arith}
 use lib.Dec.{lit<}
 use lib.IntN.{ℤ, pos, negsuc}
+use Rattle.numbers.proofs.Products.{products}
 use Rattle.elements.specs.WorkingRule.{scale}
 use Rattle.accuracy.specs.Fractions.{Fraction, _⊗_, _^_, _⊘_}
 use Rattle.accuracy.proofs.Parts.{plus, minus, as-pos}
 use Rattle.accuracy.proofs.Nearness.{Near, Same, near-same, near-part, near-down, near-product}
 use Rattle.accuracy.proofs.Powers.{part-top, power-sum}
-
-ruleset products = (mul-add, add-mul, mul-assoc, mul-comm, mul-left-comm)
 
 -- The most that a term of the rule can be, and its errors in thousandths of a unit.
 pub record Bound : Type 0 where

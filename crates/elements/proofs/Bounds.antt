@@ -2,20 +2,19 @@
 -- zero; and k and p are not below zero. Assumes nothing.
 use mathlib.Core.Path.{_≡_, sym, _∙_, ap}
 use Prim.Native.Nat.{ℕ, _-_, _*_, _/_, _≤_}
-use native.Mathlib.Nat.{mul-add, add-mul, mul-assoc, mul-comm, mul-left-comm, mul-zero, mul-le-mul, mul-le-mul-left, mul-le-mul-right, mul-div-le, div-le-of-le-mul}
+use native.Mathlib.Nat.{mul-zero, mul-le-mul, mul-le-mul-left, mul-le-mul-right, mul-div-le, div-le-of-le-mul}
 use native.Mathlib.Decide.{decLe}
 use native.Mathlib.Omega.{arith}
 use lib.IntN.{ℤ, pos, _-ℤ_}
 use Rattle.numbers.specs.Whole.{Between}
 use Rattle.numbers.proofs.Differences.{minus-le}
 use Rattle.numbers.proofs.Ranges.{at-least, at-most, natural, widen, sum-between, difference-between, product-between, quotient-between}
+use Rattle.numbers.proofs.Products.{products}
 use Rattle.line.specs.Ranges.{CurveInRange}
 use Rattle.elements.specs.WorkingRule.{scale, rounded, fullAngle, halfAngle, spiralAngle, sineOf, cosineOf, unitX, unitY, spiralX, spiralY, centreOf, shiftOf, tanOf, tangentOf}
 use Rattle.elements.proofs.Rounding.{rounded-between, rest-between}
 use Rattle.elements.proofs.SineAndCosine.{greatestAngle, sine-between, cosine-between, cosine-above}
 use Rattle.elements.proofs.UnitSpiral.{greatestSpiralAngle, unitX-between, unitY-between, unitY-quarter}
-
-ruleset products = (mul-add, add-mul, mul-assoc, mul-comm, mul-left-comm)
 
 -- ---- the angles
 

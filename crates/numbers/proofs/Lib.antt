@@ -3,3 +3,4 @@ pub mod Differences
 pub mod Ranges
 pub mod Tests
 pub mod Tables
+pub mod Products
