@@ -66,25 +66,20 @@ forward-side : (u1 u2 v d e w1 w2 : ℕ) → w1 + u2 * e ≡ u1 * e + v * d + w2
 forward-side u1 u2 v d e w1 w2 h = simp products (omega (arith, simp products at (ap (λ (n : ℕ). n * d) h)))
 
 module _ (u v : Fraction) where
-  moved : minus (v .top) ≡ zero → plus ((u ⊕ v) .top) + minus (u .top) * v .under ≡ plus (u .top) * v .under + plus (v .top) * u .under + minus ((u ⊕ v) .top)
-  moved z = omega (arith, rw z at (sum-top u v))
+  -- The cross products of u and of u ⊕ v differ by v's part.
+  beyond : minus (v .top) ≡ zero
+      → plus (u .top *ℤ pos ((u ⊕ v) .under)) + minus ((u ⊕ v) .top *ℤ pos (u .under)) + plus (v .top) * u .under * u .under
+      ≡ plus ((u ⊕ v) .top *ℤ pos (u .under)) + minus (u .top *ℤ pos ((u ⊕ v) .under))
+  unfolding _⊕_
+  beyond z =
+      rw (plus-times (u .top) (u .under * v .under), minus-times (u .top) (u .under * v .under), plus-times ((u ⊕ v) .top) (u .under), minus-times ((u ⊕ v) .top) (u .under))
+      (forward-side _ _ _ (u .under) (v .under) _ _ (omega (arith, rw z at (sum-top u v))))
 
   pub not-back : minus (v .top) ≡ zero → u ≼ u ⊕ v
-  unfolding _⊕_
-  not-back z =
-      record {
-        cross =
-            le-parts (u .top *ℤ pos (u .under * v .under)) ((u ⊕ v) .top *ℤ pos (u .under))
-            (rw (plus-times (u .top) (u .under * v .under), minus-times (u .top) (u .under * v .under), plus-times ((u ⊕ v) .top) (u .under), minus-times ((u ⊕ v) .top) (u .under))
-            (omega (arith, forward-side _ _ _ (u .under) (v .under) _ _ (moved z))));
-      }
+  not-back z = record { cross = le-parts _ _ (omega (arith, beyond z)) }
 
   pub onward : zero < plus (v .top) → u ≺ u ⊕ v
-  unfolding _⊕_
   onward p =
       record {
-        cross =
-            lt-parts (u .top *ℤ pos (u .under * v .under)) ((u ⊕ v) .top *ℤ pos (u .under))
-            (rw (plus-times (u .top) (u .under * v .under), minus-times (u .top) (u .under * v .under), plus-times ((u ⊕ v) .top) (u .under), minus-times ((u ⊕ v) .top) (u .under))
-            (omega (arith, forward-side _ _ _ (u .under) (v .under) _ _ (moved (no-minus (v .top) p)), mul-pos (mul-pos p (u .above)) (u .above))));
+        cross = lt-parts _ _ (omega (arith, beyond (no-minus (v .top) p), mul-pos (mul-pos p (u .above)) (u .above)));
       }
