@@ -1,5 +1,5 @@
 -- Demand 3, in one theorem about the calculator's answer and row; and the same for a caller of `stations`. Assumes nothing.
-use mathlib.Core.Path.{_≡_, sym, _∙_, ap, subst}
+use mathlib.Core.Path.{_≡_, refl, sym, _∙_, ap, subst}
 use mathlib.Core.List.{List}
 use Prim.Native.Nat.{ℕ, _≤_}
 use lib.Dec.{lit≤}
@@ -17,7 +17,7 @@ use Rattle.accuracy.specs.ExactElements.{documentTerms}
 use Rattle.accuracy.specs.Accuracy.{RowWithin, Accurate}
 use Rattle.accuracy.proofs.StationsWithin.{row-within}
 use Rattle.accuracy.proofs.ExactOrder.{in-exact-order}
-use Rattle.accuracy.proofs.RefusedLengths.{straight-shorter, arc-shorter}
+use Rattle.accuracy.proofs.RefusedLengths.{refused-lengths}
 
 -- With seven terms of each series or more.
 pub accuracy-with : (n : ℕ) → 7 ≤ n → (line : Line) (row : List ℕ) → Accurate n line row
@@ -25,8 +25,8 @@ accuracy-with n seven line row =
     record {
       stations = λ e. row-within n seven line (accepted line (counted line row e .checked) .in-range) (row-numbers line row e);
       order = λ e. in-exact-order n seven line (accepted line (counted line row e .checked));
-      short-straight = λ e. straight-shorter n seven line (first-refusal line (length row) (refused-stations line row e .outcome));
-      short-arc = λ e. arc-shorter n seven line (first-refusal line (length row) (refused-stations line row e .outcome));
+      short-straight = λ e. refused-lengths n seven line (first-refusal line (length row) (refused-stations line row e .outcome)) .straight-short refl;
+      short-arc = λ e. refused-lengths n seven line (first-refusal line (length row) (refused-stations line row e .outcome)) .arc-short refl;
     }
 
 -- Demand 3, with document 01's eight terms.

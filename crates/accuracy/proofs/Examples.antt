@@ -10,7 +10,7 @@ use lib.IntN.{ℤ, pos, _*ℤ_}
 use lib.ListN.{replicate}
 use lib.Signed.{leZ, ltZ, leZ-yes, ltZ-yes}
 use Rattle.refusals.specs.Outcomes.{firstOf}
-use Rattle.refusals.specs.Filling.{filled}
+use Rattle.refusals.specs.Filling.{filled, unfilled}
 use Rattle.line.specs.declared.Curve.{Curve}
 use Rattle.line.specs.declared.Line.{Line}
 use Rattle.line.specs.Checks.{startOutcome, headOutcome, distanceOutcome, curveOutcome, bodyOutcome, lineOutcome}
@@ -19,7 +19,7 @@ use Rattle.elements.specs.Answer.{arcOutcome}
 use Rattle.calculator.specs.RoadTables.{underSpeed, frictionAt, leastSpiralAt, radiusServes, spiralServes}
 use Rattle.calculator.specs.Stations.{spiralAt, arcAt, tangentAt, tangentBefore, tangentAfter, straightAt, formerST, pointsAt, endOf}
 use Rattle.calculator.specs.Answer.{designOutcome, curveCheck, straightCheck, alignmentOutcome, roomCheck, stationsOutcome, stationsAnswer}
-use Rattle.accuracy.specs.Fractions.{Fraction, whole, nat, _⊕_, _⊖_, _⊗_, _^_, _⊘_, over, ratio, _≼_, _≺_}
+use Rattle.accuracy.specs.Fractions.{Fraction, whole, nat, _⊕_, _⊖_, _⊗_, _^_, _⊘_, over, ratio, _≼_, _≺_, _≈_}
 use Rattle.accuracy.specs.ExactElements.{exactPi, exactAngle, exactHalfAngle, exactSpiralAngle, alternatingSum, factorial, exactSine, exactCosine, documentTerms, exactX, exactY, exactCentre, exactShift, exactArc, exactTan, exactTangent}
 use Rattle.accuracy.specs.ExactStations.{exactSpiralAt, exactArcAt, exactTangentAt, exactTangentBefore, exactTangentAfter, exactStraightAt, exactFormerST, exactPointsAt, exactEnd}
 use Rattle.accuracy.specs.Accuracy.{Within, ElementsWithin, tolerance, tenths, leastStraight, leastArc, refusedStraight, refusedArc}
@@ -28,10 +28,6 @@ use Rattle.accuracy.specs.Accuracy.{Within, ElementsWithin, tolerance, t
 pub record Billionths (k : ℕ) (v : Fraction) : Type 0 where
   pub low : nat k ⊘ 1000000000 ≼ v
   pub high : v ≺ nat (suc k) ⊘ 1000000000
-
-pub record Equal (u v : Fraction) : Type 0 where
-  pub low : u ≼ v
-  pub high : v ≼ u
 
 -- ---- computed tests
 
@@ -44,8 +40,8 @@ Less u v = T (ltZ (u .top *ℤ pos (v .under)) (v .top *ℤ pos (u .under)))
 less : {u v : Fraction} → Less u v → u ≺ v
 less t = record { cross = ltZ-yes t }
 
-equal : {u v : Fraction} → LessOrEqual u v → LessOrEqual v u → Equal u v
-equal s t = record { low = record { cross = leZ-yes s }; high = record { cross = leZ-yes t } }
+equal : {u v : Fraction} → LessOrEqual u v → LessOrEqual v u → u ≈ v
+equal s t = record { at-most = record { cross = leZ-yes s }; at-least = record { cross = leZ-yes t } }
 
 decimals : {k : ℕ} {v : Fraction} → LessOrEqual (nat k ⊘ 1000000000) v → Less v (nat (suc k) ⊘ 1000000000) → Billionths k v
 decimals s t = record { low = record { cross = leZ-yes s }; high = less t }
@@ -73,6 +69,10 @@ oneCurve first last A R L =
 abbrev pub caseLine : ℕ → Line
 caseLine first = oneCurve first 400000 177764 350000 40000
 
+-- The radius and the spiral of cases 6 and 7.
+abbrev pub shortArc : ℕ → Line
+shortArc A = oneCurve 500000 400000 A 350000 40000
+
 -- A curve whose TT is 55 µm short of the exact one.
 abbrev pub farLine : Line
 farLine = oneCurve 20000000 20000000 427972 4958722 192135
@@ -91,8 +91,8 @@ twoCurves =
 
 pub record Examples : Type 0 where
   -- 1 − 1/3! + 1/5! − .. − 1/15!, and 1 − 1/2! + 1/4! − .. − 1/14!
-  pub sine-of-1 : Equal (exactSine documentTerms (nat 1)) (nat 1100370038249 ⊘ 1307674368000)
-  pub cosine-of-1 : Equal (exactCosine documentTerms (nat 1)) (nat 47102631757 ⊘ 87178291200)
+  pub sine-of-1 : exactSine documentTerms (nat 1) ≈ nat 1100370038249 ⊘ 1307674368000
+  pub cosine-of-1 : exactCosine documentTerms (nat 1) ≈ nat 47102631757 ⊘ 87178291200
   pub case-1-X : Billionths 39986940749996 (exactX 350000 40000)
   pub case-1-Y : Billionths 761727058170 (exactY 350000 40000)
   pub case-1-k : Billionths 19997823326838 (exactCentre documentTerms 350000 40000)
@@ -106,11 +106,15 @@ pub record Examples : Type 0 where
   pub two-accepted : stationsAnswer twoCurves 9 ≡ filled 9
   pub second-TS : Within (tolerance 2) (pointsAt twoCurves 1 .TS) (exactPointsAt documentTerms twoCurves 1 .TS)
   pub two-end : Within (tolerance 2) (endOf twoCurves) (exactEnd documentTerms twoCurves)
-  -- case 2, a straight of 1,722 µm; case 3, one that is refused; case 7, an arc that is
-  pub straight-accepted : tenths leastStraight ≺ exactStraightAt documentTerms (caseLine 180991) 0
-  pub straight-refused : exactStraightAt documentTerms (caseLine 180990) 0 ≺ tenths refusedStraight
-  pub arc-refused : exactArc 23573 350000 40000 ≺ tenths refusedArc
-  pub arc-accepted : tenths leastArc ≺ exactArc 23574 350000 40000
+  -- case 2, an accepted straight of 1,722 µm; case 3, a refused one; case 7's curve in a line, a refused arc; case 6's, an accepted one
+  pub case-2 : stationsAnswer (caseLine 180991) 5 ≡ filled 5
+  pub case-2-straight : tenths leastStraight ≺ exactStraightAt documentTerms (caseLine 180991) 0
+  pub case-3 : stationsAnswer (caseLine 180990) 5 ≡ unfilled 15 0
+  pub case-3-straight : exactStraightAt documentTerms (caseLine 180990) 0 ≺ tenths refusedStraight
+  pub case-6 : stationsAnswer (shortArc 23574) 5 ≡ filled 5
+  pub case-6-arc : tenths leastArc ≺ exactArcAt (shortArc 23574) 0
+  pub case-7 : stationsAnswer (shortArc 23573) 5 ≡ unfilled 14 1
+  pub case-7-arc : exactArcAt (shortArc 23573) 0 ≺ tenths refusedArc
 
 pub examples : Examples
 unfolding firstOf startOutcome headOutcome distanceOutcome curveOutcome bodyOutcome lineOutcome arcOutcome underSpeed frictionAt leastSpiralAt radiusServes spiralServes designOutcome curveCheck straightCheck alignmentOutcome roomCheck stationsOutcome stationsAnswer rounded fullAngle halfAngle spiralAngle term alternating sineOf cosineOf t2 t3 t4 unitX unitY spiralX spiralY centreOf shiftOf arcOf tanOf tangentOf spiralAt arcAt tangentAt tangentBefore tangentAfter straightAt formerST pointsAt endOf whole _⊕_ _⊖_ _⊗_ _^_ _⊘_ over ratio exactPi exactAngle exactHalfAngle exactSpiralAngle alternatingSum factorial exactSine exactCosine exactX exactY exactCentre exactShift exactArc exactTan exactTangent exactSpiralAt exactArcAt exactTangentAt exactTangentBefore exactTangentAfter exactStraightAt exactFormerST exactPointsAt exactEnd
@@ -131,8 +135,12 @@ examples =
       two-accepted = refl;
       second-TS = near tt tt;
       two-end = near tt tt;
-      straight-accepted = less tt;
-      straight-refused = less tt;
-      arc-refused = less tt;
-      arc-accepted = less tt;
+      case-2 = refl;
+      case-2-straight = less tt;
+      case-3 = refl;
+      case-3-straight = less tt;
+      case-6 = refl;
+      case-6-arc = less tt;
+      case-7 = refl;
+      case-7-arc = less tt;
     }

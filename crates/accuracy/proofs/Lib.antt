@@ -17,4 +17,5 @@ pub mod StationsWithin
 pub mod ExactOrder
 pub mod RefusedLengths
 pub mod Accuracy
+pub mod WithoutCurves
 pub mod Examples

@@ -5,7 +5,7 @@ use mathlib.Core.Bool.{Bool, true, false, not, cond}
 use Prim.Native.Nat.{ℕ, zero, suc, _+_, _*_, _-_, _/_, _≤_, _<_}
 use native.Mathlib.Nat.{zero-mul, mul-zero, suc-mul, suc-ne-zero, div-mul-le-self, lt-div-mul-add}
 use native.Mathlib.Omega.{arith}
-use lib.Dec.{T, ltb, ltb→lt, nltb→le, le→leb, lt→ltb}
+use lib.Dec.{T, ltb, ltb→lt, nltb→le, leb→le, le→leb, lt→ltb}
 use lib.IntN.{ℤ, pos, negsuc, negℤ, subℕ, _+ℤ_, _-ℤ_, _*ℤ_}
 use lib.Signed.{_≤ℤ_, _<ℤ_, leZ-yes, ltZ-yes}
 use Rattle.numbers.specs.Whole.{down}
@@ -88,6 +88,12 @@ le-parts (pos a) (pos b) h = leZ-yes (le→leb a b (omega arith))
 le-parts (pos a) (negsuc b) h = let n : suc b ≤ zero = omega arith in absurd (omega (arith, n))
 le-parts (negsuc a) (pos b) h = leZ-yes tt
 le-parts (negsuc a) (negsuc b) h = leZ-yes (le→leb b a (omega arith))
+
+pub parts-le : (a b : ℤ) → a ≤ℤ b → plus a + minus b ≤ plus b + minus a
+parts-le (pos a) (pos b) h = let n = leb→le a b (h .le) in omega arith
+parts-le (pos a) (negsuc b) h = absurd (h .le)
+parts-le (negsuc a) (pos b) h = omega arith
+parts-le (negsuc a) (negsuc b) h = let n = leb→le b a (h .le) in omega arith
 
 pub lt-parts : (a b : ℤ) → plus a + minus b < plus b + minus a → a <ℤ b
 lt-parts (pos a) (pos b) h = ltZ-yes (lt→ltb a b (omega arith))

@@ -1,5 +1,5 @@
 -- Demand 3, a refused line: what is refused with 15 or 14 is short by the exact values too. Assumes nothing.
-use mathlib.Core.Path.{sym, subst}
+use mathlib.Core.Path.{_≡_, sym, subst}
 use Prim.Native.Nat.{ℕ, _≤_}
 use native.Mathlib.Omega.{arith}
 use lib.Dec.{lit≤}
@@ -10,30 +10,38 @@ use Rattle.accuracy.specs.Accuracy.{refusedStraight, refusedArc, ShortSt
 use Rattle.accuracy.proofs.NearStations.{near-arc-at, near-straight}
 use Rattle.accuracy.proofs.Lengths.{shorter}
 
-module _ (n : ℕ) (seven : 7 ≤ n) (line : Line) {room place : ℕ} where
-  pub straight-shorter : Reason line room 15 place → ShortStraight n line place
-  straight-shorter (fields a b e) = absurd (omega arith)
-  straight-shorter (radius i b t e p) = absurd (omega arith)
-  straight-shorter (spiral i b t u e p) = absurd (omega arith)
-  straight-shorter (arc i b t u l e p) = absurd (omega arith)
-  straight-shorter (straight i b l e p) =
-      subst (ShortStraight n line) (sym p)
-      (record {
-        inside = b .below;
-        short = shorter 1000 refusedStraight (near-straight n seven line (line-in-range line (b .fields)) i (b .below)) l (lit≤ tt);
-      })
-  straight-shorter (row a l e p) = absurd (omega arith)
+-- What holds of a refusal with this number at this place.
+pub record Refused (n : ℕ) (line : Line) (number place : ℕ) : Type 0 where
+  pub straight-short : number ≡ 15 → ShortStraight n line place
+  pub arc-short : number ≡ 14 → ShortArc line place
 
-  pub arc-shorter : Reason line room 14 place → ShortArc line place
-  arc-shorter (fields a b e) = absurd (omega arith)
-  arc-shorter (radius i b t e p) = absurd (omega arith)
-  arc-shorter (spiral i b t u e p) = absurd (omega arith)
-  arc-shorter (arc i b t u l e p) =
-      record {
-        entry = i;
-        named = p;
-        inside = b .below;
-        short = shorter 1000 refusedArc (near-arc-at n seven line (line-in-range line (b .fields)) i (b .below)) l (lit≤ tt);
-      }
-  arc-shorter (straight i b l e p) = absurd (omega arith)
-  arc-shorter (row a l e p) = absurd (omega arith)
+-- Any other number says nothing of lengths.
+other : {n : ℕ} {line : Line} {number place : ℕ} → (number ≡ 15 → ⊥) → (number ≡ 14 → ⊥) → Refused n line number place
+other h k = record { straight-short = λ e. absurd (h e); arc-short = λ e. absurd (k e) }
+
+pub refused-lengths : (n : ℕ) → 7 ≤ n → (line : Line) {room number place : ℕ} → Reason line room number place → Refused n line number place
+refused-lengths n seven line (fields a b e) = other (λ f. omega arith) (λ f. omega arith)
+refused-lengths n seven line (radius i b t e p) = other (λ f. omega arith) (λ f. omega arith)
+refused-lengths n seven line (spiral i b t u e p) = other (λ f. omega arith) (λ f. omega arith)
+refused-lengths n seven line (arc i b t u l e p) =
+    record {
+      straight-short = λ f. absurd (omega arith);
+      arc-short =
+          λ f. record {
+            entry = i;
+            named = p;
+            inside = b .below;
+            short = shorter 1000 refusedArc (near-arc-at n seven line (line-in-range line (b .fields)) i (b .below)) l (lit≤ tt);
+          };
+    }
+refused-lengths n seven line (straight i b l e p) =
+    record {
+      straight-short =
+          λ f. subst (ShortStraight n line) (sym p)
+          (record {
+            inside = b .below;
+            short = shorter 1000 refusedStraight (near-straight n seven line (line-in-range line (b .fields)) i (b .below)) l (lit≤ tt);
+          });
+      arc-short = λ f. absurd (omega arith);
+    }
+refused-lengths n seven line (row a l e p) = other (λ f. omega arith) (λ f. omega arith)

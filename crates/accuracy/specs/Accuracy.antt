@@ -12,7 +12,7 @@ use Rattle.accuracy.specs.Fractions.{Fraction, whole, nat, _⊖_, _⊗_,
 use Rattle.accuracy.specs.ExactElements.{exactX, exactY, exactCentre, exactShift, exactArc, exactTangent}
 use Rattle.accuracy.specs.ExactStations.{exactArcAt, exactStraightAt, exactFormerST, exactPointsAt, exactEnd}
 
--- q µm and v mm differ by at most e µm, either way.
+-- "Each number .. is held against 1,000 times the clerk's": q µm and v mm differ by at most e µm, either way.
 pub record Within (e : ℕ) (q : ℤ) (v : Fraction) : Type 0 where
   pub over : whole q ⊖ nat 1000 ⊗ v ≼ nat e
   pub short : nat 1000 ⊗ v ⊖ whole q ≼ nat e
@@ -93,8 +93,10 @@ pub record ShortArc (line : Line) (place : ℕ) : Type 0 where
   pub inside : entry < line .count
   pub short : exactArcAt line entry ≺ tenths refusedArc
 
--- ---- demand 3, for a line and a row
+-- ---- demand 3, for a line and a row of any length
 
+-- Where the calculator answers its count, what the row then holds is near the exact stations, and these are in order; where it refuses with
+-- 15 or 14, the straight or arc at the place it names is short by the exact values too.
 pub record Accurate (n : ℕ) (line : Line) (row : List ℕ) : Type 0 where
   pub stations : {count : ℕ} → stationsAnswer line (length row) ≡ filled count → RowWithin n line (stationsRow line row)
   pub order : {count : ℕ} → stationsAnswer line (length row) ≡ filled count → InExactOrder n line

@@ -26,6 +26,7 @@ unfoldable pub alternatingSum : (ℕ → Fraction) → ℕ → Fraction
 alternatingSum terms zero = nat 0
 alternatingSum terms (suc j) = cond (eqb (j % 2) 1) (alternatingSum terms j ⊖ terms j) (alternatingSum terms j ⊕ terms j)
 
+-- n!
 unfoldable pub factorial : ℕ → ℕ
 factorial zero = 1
 factorial (suc n) = suc n * factorial n
@@ -38,7 +39,7 @@ exactSine n v = alternatingSum (λ j. v ^ (2 * j + 1) ⊘ factorial (2 * j + 1))
 unfoldable pub exactCosine : ℕ → Fraction → Fraction
 exactCosine n v = alternatingSum (λ j. v ^ (2 * j) ⊘ factorial (2 * j)) n
 
--- "through powers 15 and 14"
+-- "through powers 15 and 14": eight terms of each
 abbrev pub documentTerms : ℕ
 documentTerms = 8
 

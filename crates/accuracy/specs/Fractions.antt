@@ -5,6 +5,7 @@ use native.Mathlib.Nat.{mul-pos, zero-lt-suc}
 use lib.IntN.{ℤ, pos, negsuc, negℤ, _+ℤ_, _-ℤ_, _*ℤ_}
 use lib.Signed.{_≤ℤ_, _<ℤ_}
 
+-- `top` over `under`
 pub record Fraction : Type 0 where
   pub top : ℤ
   pub under : ℕ
@@ -61,9 +62,14 @@ ratio u v = over u (v .top) (v .under)
 
 -- ---- order, by cross products
 
-infix 4 _≼_ _≺_
+infix 4 _≼_ _≺_ _≈_
 pub record _≼_ (u v : Fraction) : Type 0 where
   pub cross : (u .top *ℤ pos (v .under)) ≤ℤ (v .top *ℤ pos (u .under))
 
 pub record _≺_ (u v : Fraction) : Type 0 where
   pub cross : (u .top *ℤ pos (v .under)) <ℤ (v .top *ℤ pos (u .under))
+
+-- Of the same value: neither is above the other.
+pub record _≈_ (u v : Fraction) : Type 0 where
+  pub at-most : u ≼ v
+  pub at-least : v ≼ u

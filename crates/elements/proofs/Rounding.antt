@@ -1,7 +1,7 @@
 -- The rounding of an element's last division: what callers use of it, whichever way it goes. Assumes nothing.
 use mathlib.Core.Path.{_≡_, sym}
-use Prim.Native.Nat.{ℕ, zero, _+_, _*_, _/_, _≤_, _<_}
-use native.Mathlib.Nat.{div-le-of-le-mul, div-mul-le-self, le-div-iff-mul-le, lt-div-mul-add}
+use Prim.Native.Nat.{ℕ, zero, _*_, _/_, _≤_, _<_}
+use native.Mathlib.Nat.{div-le-of-le-mul, div-mul-le-self, le-div-iff-mul-le}
 use native.Mathlib.Omega.{arith}
 use lib.IntN.{ℤ, pos, _-ℤ_}
 use Rattle.numbers.specs.Whole.{Between}
@@ -28,10 +28,3 @@ rest-between n k m most above o h =
     let u = rounded-between m most (natural n {least = 0} {most = n} (omega arith) (omega arith)) h in
     let v = rounded-between m most (natural k {least = 0} {most = n} (omega arith) o) h in
     difference-between u v (rounded-keeps-order m above (sym (v .same)) (sym (u .same)) o)
-
--- Rounding down errs by less than one unit, and never upwards.
-pub rounded-errs : {n u : ℕ} (m : ℕ) → zero < m → pos u ≡ rounded (pos n) m → (u * m ≤ n) × (n < u * m + m)
-unfolding rounded
-rounded-errs {n} {u} m above e =
-    let q : u ≡ n / m = cc in
-    rw q (div-mul-le-self n m, lt-div-mul-add {a = n} {b = m} above)
