@@ -2,5 +2,6 @@
 pub mod Walk
 pub mod InRange
 pub mod Unused
+pub mod Entries
 pub mod Numbers
 pub mod Examples

@@ -42,9 +42,13 @@ curveOutcome A R L place =
 abbrev pub distanceAt : Line → ℕ → ℕ
 distanceAt line i = getD (line .distances) i 0
 
+-- A curve whose fields are all zero.
+abbrev pub blankCurve : Curve
+blankCurve = record { left = false; deflection = 0; radius = 0; spiral = 0 }
+
 -- The curve at an entry: entry i holds curve i + 1.
 abbrev pub curveAt : Line → ℕ → Curve
-curveAt line i = getD (line .curves) i (record { left = false; deflection = 0; radius = 0; spiral = 0 })
+curveAt line i = getD (line .curves) i blankCurve
 
 -- "8 to 11 in sheet order": distance 0, curve 1, distance 1, .. up to curve i and distance i
 unfoldable pub bodyOutcome : Line → ℕ → Outcome

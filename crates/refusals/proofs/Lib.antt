@@ -3,3 +3,4 @@ pub mod Joining
 pub mod InTurn
 pub mod Numbers
 pub mod Filled
+pub mod FillWays

@@ -1,0 +1,29 @@
+-- The used and the unused entries of a line (document 01, "The line" and "Packed sheet").
+use mathlib.Core.List.{List, [], _∷_}
+use Prim.Native.Nat.{ℕ, zero, suc}
+use lib.ListN.{replicate}
+use Rattle.line.specs.declared.Line.{Line}
+use Rattle.line.specs.Checks.{distanceAt, blankCurve, curveAt}
+
+-- `size` entries: the first `used` are f 0, f 1, .., the others `blank`.
+unfoldable pub entries : {A : Type 0} → ℕ → ℕ → (ℕ → A) → A → List A
+entries size zero f blank = replicate size blank
+entries zero (suc used) f blank = []
+entries (suc size) (suc used) f blank = f 0 ∷ entries size used (λ i. f (suc i)) blank
+
+-- A line without curves whose fields are all zero.
+abbrev pub blankLine : Line
+blankLine =
+    record { speed = 0; crossfall = 0; start = 0; count = 0; distances = replicate 65 0; curves = replicate 64 blankCurve }
+
+-- "comes back with its unused entries zero": the line with the used entries alone
+unfoldable pub cleared : Line → Line
+cleared line =
+    record {
+      speed = line .speed;
+      crossfall = line .crossfall;
+      start = line .start;
+      count = line .count;
+      distances = entries 65 (suc (line .count)) (distanceAt line) 0;
+      curves = entries 64 (line .count) (curveAt line) blankCurve;
+    }

@@ -1,0 +1,90 @@
+-- The reader's checks 1 to 7: what they say in each case, and what a sheet is that passes them. Assumes nothing.
+use mathlib.Core.Path.{_≡_, refl, sym, _∙_, ap}
+use mathlib.Core.Bool.{Bool, _&&_}
+use mathlib.Core.List.{List}
+use Prim.Native.Nat.{ℕ, _≤_, _<_}
+use native.Mathlib.Omega.{arith}
+use lib.Dec.{leb, eqb}
+use lib.ListN.{length, getD}
+use borrow.Author.Tests.{le-leb, lt-leb, leb-true, eqb-true}
+use Rattle.numbers.proofs.Tests.{both-left, both-right}
+use Rattle.refusals.specs.Outcomes.{Outcome, passed, refused, need, _▹_}
+use Rattle.refusals.proofs.Joining.{passed-left, passed-right, need-holds, join, tested}
+use Rattle.line.specs.Checks.{headOutcome}
+use Rattle.line.proofs.InRange.{few-curves}
+use Rattle.sheet.specs.Bits.{bitsAt, valuesAt}
+use Rattle.sheet.specs.Layout.{Edition, headWidths, bitCount, byteCount, fillWidth}
+use Rattle.sheet.proofs.Fields.{bits-lt}
+use Rattle.sheet.specs.Reading.{headField, countOf, sizeOutcome, frameOutcome}
+
+module _ (E : Edition) (s : List ℕ) where
+  -- ---- 1 (full length) and 7
+
+  pub too-short : (n : ℕ) → length s < byteCount E n → refused 1 0 ≡ sizeOutcome E s n
+  unfolding sizeOutcome
+  too-short n h = rw (lt-leb (byteCount E n) (length s) h)
+
+  pub too-long : (n : ℕ) → byteCount E n < length s → refused 7 0 ≡ sizeOutcome E s n
+  unfolding sizeOutcome
+  too-long n h = rw (le-leb (byteCount E n) (length s) (omega arith), lt-leb (length s) (byteCount E n) h)
+
+  pub whole : (n : ℕ) {at width fill : ℕ} {o : Outcome} → length s ≡ byteCount E n → at ≡ bitCount E n → width ≡ fillWidth E n
+      → fill ≡ bitsAt s at width → o ≡ need (eqb fill 0) 7 0 → o ≡ sizeOutcome E s n
+  unfolding sizeOutcome
+  whole n h a w f e =
+      rw (le-leb (byteCount E n) (length s) (omega (arith, h)), le-leb (length s) (byteCount E n) (omega (arith, h)))
+      (e ∙ ap (λ (x : ℕ). need (eqb x 0) 7 0) (f ∙ λ j. bitsAt s (a j) (w j)))
+
+  -- ---- 1 to 7
+
+  pub no-head : length s < 7 → refused 1 0 ≡ frameOutcome E s
+  unfolding frameOutcome
+  no-head h = rw (lt-leb 7 (length s) h)
+
+  pub framed-by : {head : List ℕ} {edition fields size : Outcome} → 7 ≤ length s → head ≡ valuesAt s 0 (headWidths E)
+      → edition ≡ need (eqb (getD head 0 0) (E .number)) 2 0
+      → fields ≡ headOutcome (getD head 1 0) (getD head 2 0) (getD head 3 0) (getD head 4 0)
+      → size ≡ sizeOutcome E s (getD head 1 0)
+      → (edition ▹ fields ▹ size) ≡ frameOutcome E s
+  unfolding frameOutcome headField
+  framed-by h v e f z = rw (le-leb 7 (length s) h, ← v) (join e (join f z))
+
+  -- A sheet that passes 1 to 7.
+  pub record Framed : Type 0 where
+    pub edition : headField E s 0 ≡ E .number
+    pub head : headOutcome (countOf E s) (headField E s 2) (headField E s 3) (headField E s 4) ≡ passed
+    pub few : countOf E s ≤ 64
+    pub size : length s ≡ byteCount E (countOf E s)
+    pub fill : bitsAt s (bitCount E (countOf E s)) (fillWidth E (countOf E s)) ≡ 0
+
+  pub framed : frameOutcome E s ≡ passed → Framed
+  unfolding frameOutcome sizeOutcome
+  framed h =
+      let n = countOf E s in
+      let edition = need (eqb (headField E s 0) (E .number)) 2 0 in
+      let fields = headOutcome n (headField E s 2) (headField E s 3) (headField E s 4) in
+      let long = need (leb (byteCount E n) (length s)) 1 0 in
+      let h₁ = passed-right (need (leb 7 (length s)) 1 0) _ h in
+      let h₂ = passed-right edition _ h₁ in
+      let h₃ = passed-right fields _ h₂ in
+      let head = passed-left fields _ h₂ in
+      let full = need-holds (leb (length s) (byteCount E n) && eqb (bitsAt s (bitCount E n) (fillWidth E n)) 0) 7 0 (passed-right long _ h₃) in
+      let low = leb-true (byteCount E n) (length s) (need-holds _ 1 0 (passed-left long _ h₃)) in
+      let high = leb-true (length s) (byteCount E n) (both-left _ (eqb (bitsAt s (bitCount E n) (fillWidth E n)) 0) full) in
+      record {
+        edition = eqb-true _ _ (need-holds _ 2 0 (passed-left edition _ h₁));
+        head = head;
+        few = few-curves n _ _ _ head;
+        size = omega arith;
+        fill = eqb-true _ 0 (both-right (leb (length s) (byteCount E n)) _ full);
+      }
+
+-- n, as the code reads it.
+pub count-read : (E : Edition) (s : List ℕ) {head : List ℕ} → head ≡ valuesAt s 0 (headWidths E) → getD head 1 0 ≡ countOf E s
+unfolding headField
+count-read E s e = ap (λ (l : List ℕ). getD l 1 0) e
+
+-- n has seven bits.
+pub count-below : (E : Edition) (s : List ℕ) {head : List ℕ} → head ≡ valuesAt s 0 (headWidths E) → getD head 1 0 < 128
+unfolding valuesAt
+count-below E s {head} e = rw (ap (λ (l : List ℕ). getD l 1 0) e) (bits-lt s 4 7)

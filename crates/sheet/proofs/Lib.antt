@@ -1,0 +1,9 @@
+-- Laws of sheets.
+pub mod Bytes
+pub mod Fields
+pub mod Pens
+pub mod Fitting
+pub mod SheetSteps
+pub mod Frames
+pub mod LineSteps
+pub mod WaysOut

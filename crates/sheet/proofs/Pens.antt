@@ -1,0 +1,59 @@
+-- What is written, one field after the other. Assumes nothing.
+use mathlib.Core.Path.{_≡_, refl, sym, _∙_, ap}
+use mathlib.Core.List.{List, _++_}
+use Prim.Native.Nat.{ℕ, _+_, _-_, _*_, _≤_}
+use native.Mathlib.Nat.{add-zero, mul-one}
+use native.Mathlib.Omega.{arith}
+use lib.Arith.{lt-one}
+use lib.ListN.{length, take, drop, take-append-drop}
+use lib.Seq.{drop-drop, length-take-le}
+use Rattle.sheet.specs.declared.pen.Pen.{Pen}
+use Rattle.sheet.specs.Bits.{Bytes, valueOf, bytesOf}
+use Rattle.sheet.specs.Pens.{written, Ready, Put}
+use Rattle.sheet.proofs.Bytes.{bytes-value, bytes-take}
+
+-- What agrees from m on agrees from any later n on.
+pub further : (m n : ℕ) (a b : List ℕ) → m ≤ n → drop m a ≡ drop m b → drop n a ≡ drop n b
+further m n a b h e =
+    let z : n ≡ m + (n - m) = omega arith in
+    rw z (sym (drop-drop (n - m) m a) ∙ ap (drop (n - m)) e ∙ drop-drop (n - m) m b)
+
+-- Nothing is written.
+pub put-none : (b : List ℕ) (p : Pen) → Ready p → Put b b p p 0 (λ x. x)
+put-none b p r = record { ready = r; moved = omega arith; number = refl; rest = refl }
+
+-- Two writes after one another are one.
+pub put-put : {b₀ b₁ b₂ : List ℕ} {p q r : Pen} {w w′ : ℕ} {f g : ℕ → ℕ} → Put b₀ b₁ p q w f → Put b₁ b₂ q r w′ g
+    → Put b₀ b₂ p r (w + w′) (λ x. g (f x))
+put-put {b₀} {b₁} {q} {r} {g} h k =
+    record {
+      ready = k .ready;
+      moved = omega (arith, h .moved, k .moved);
+      number = k .number ∙ ap g (h .number);
+      rest = k .rest ∙ further (q .at) (r .at) b₁ b₀ (omega (arith, h .ready .held, h .moved, k .moved, k .ready .held)) (h .rest);
+    }
+
+-- The same write, said otherwise.
+pub put-as : {b b′ : List ℕ} {p q : Pen} {w w′ : ℕ} {f g : ℕ → ℕ} → Put b b′ p q w f → w ≡ w′ → ((x : ℕ) → f x ≡ g x)
+    → Put b b′ p q w′ g
+put-as {b} {p} h e same =
+    record { ready = h .ready; moved = omega (arith, h .moved, e); number = h .number ∙ same (written b p); rest = h .rest }
+
+-- Nothing is written yet.
+abbrev pub newPen : Pen
+newPen = record { at = 0; pending = 0; held = 0 }
+
+-- Whole bytes are written: they are the number's, and the others are as before.
+pub bytes-written : {lent b : List ℕ} {q : Pen} {w : ℕ} {f : ℕ → ℕ} (k : ℕ) → Put lent b newPen q w f → w ≡ 8 * k → k ≤ length lent
+    → length b ≡ length lent → Bytes b → b ≡ bytesOf k (f 0) ++ drop k lent
+unfolding written valueOf
+bytes-written {lent} {b} {q} {w} {f} k h whole room same bytes =
+    let at : q .at ≡ k = omega (arith, h .moved, h .ready .held, whole) in
+    let held : q .held ≡ 0 = omega (arith, h .moved, h .ready .held, whole) in
+    let none : q .pending ≡ 0 = lt-one (rw held at (h .ready .pending)) in
+    let number : valueOf (take k b) ≡ f 0 = sym (add-zero _ ∙ mul-one _) ∙ (rw (at, held, none) at (h .number)) in
+    let size : length (take k b) ≡ k = length-take-le k b (omega (arith, same)) in
+    let front : take k b ≡ bytesOf k (f 0) =
+    sym (bytes-value (take k b) (bytes-take k b bytes)) ∙ (λ j. bytesOf (size j) (number j)) in
+    let rest : drop k b ≡ drop k lent = rw at at (h .rest) in
+    sym (take-append-drop k b) ∙ (λ j. front j ++ rest j)

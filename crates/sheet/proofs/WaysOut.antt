@@ -1,0 +1,52 @@
+-- What the reader answers, for each way out; the length of the writer's sheet. Assumes nothing.
+use mathlib.Core.Path.{_≡_, refl, sym, _∙_, ap}
+use mathlib.Core.List.{List, _++_}
+use Prim.Native.Nat.{ℕ, _≤_, _<_}
+use lib.ListN.{length, drop}
+use borrow.Author.Tests.{le-leb, lt-leb}
+use Rattle.refusals.specs.declared.Refusal.{Refusal}
+use Rattle.refusals.specs.declared.Verdict.{Verdict}
+use Rattle.refusals.specs.declared.Verdict.the-variants.{Pass, Refused}
+use Rattle.refusals.specs.Table.{numberOf, placeOf}
+use Rattle.refusals.specs.Outcomes.{Outcome, passed, refused, outcomeOf, need, _▹_}
+use Rattle.refusals.specs.Filling.{filled, unfilled, countAfter, bufferAfter}
+use Rattle.refusals.proofs.Joining.{refused-first, passed-first}
+use Rattle.line.specs.declared.Line.{Line}
+use Rattle.line.specs.Checks.{headOutcome, bodyOutcome, lineOutcome}
+use Rattle.line.specs.Entries.{blankLine}
+use Rattle.sheet.specs.Layout.{Edition, byteCount}
+use Rattle.sheet.specs.Reading.{countOf, lineTo, lineOf, frameOutcome, readOutcome, lineAfter, readLine}
+use Rattle.sheet.specs.Writing.{sheetNumber, sheetOf, writeOutcome, writeAnswer, writeBytes}
+use Rattle.sheet.proofs.Bytes.{length-bytes}
+use Rattle.sheet.proofs.Frames.{framed}
+
+-- ---- the reader
+
+module _ (E : Edition) (s : List ℕ) where
+  -- Once 1 to 7 pass, the check of the line decides.
+  pub line-decides : frameOutcome E s ≡ passed → lineOutcome (lineOf E s) ≡ readOutcome E s
+  unfolding readOutcome lineOutcome lineTo
+  line-decides e =
+      rw (e, framed E s e .head)
+
+  -- The line beside a verdict.
+  pub line-beside : (v : Verdict) {w : Verdict} {line : Line} → outcomeOf v ≡ readOutcome E s → v ≡ w
+      → line ≡ lineAfter (outcomeOf w) (lineOf E s) → line ≡ readLine E s
+  unfolding readLine
+  line-beside v answer e l = l ∙ ap (λ (o : Outcome). lineAfter o (lineOf E s)) (sym (ap outcomeOf e) ∙ answer)
+
+  -- 1 to 7 refuse.
+  pub frame-refused : (v : Verdict) {r : Refusal} → outcomeOf v ≡ frameOutcome E s → v ≡ Refused r → outcomeOf v ≡ readOutcome E s
+  unfolding readOutcome
+  frame-refused v h e = refused-first v _ _ e h
+
+  -- 1 to 7 pass, and the line is checked.
+  pub line-checked : (f : Verdict) {o : Outcome} {line : Line} → outcomeOf f ≡ frameOutcome E s → f ≡ Pass → line ≡ lineOf E s
+      → o ≡ lineOutcome line → o ≡ readOutcome E s
+  line-checked f h e l c = c ∙ ap lineOutcome l ∙ line-decides (sym h ∙ ap outcomeOf e)
+
+-- ---- the writer
+
+pub sheet-length : (E : Edition) (line : Line) → length (sheetOf E line) ≡ byteCount E (line .count)
+unfolding sheetOf
+sheet-length E line = length-bytes (byteCount E (line .count)) (sheetNumber E line)

@@ -1,0 +1,61 @@
+-- The sheet of a line (document 01, "Packed sheet"), and what the writer answers and leaves in the caller's bytes ("Order").
+use mathlib.Core.Bool.{Bool, true, false}
+use mathlib.Core.List.{List, [], _∷_}
+use Prim.Native.Nat.{ℕ, zero, suc}
+use lib.Dec.{leb}
+use lib.ListN.{length}
+use Rattle.refusals.specs.Outcomes.{Outcome, need, _▹_}
+use Rattle.refusals.specs.Filling.{FillReply, countAfter, bufferAfter}
+use Rattle.line.specs.declared.Line.{Line}
+use Rattle.line.specs.Checks.{distanceAt, curveAt, lineOutcome}
+use Rattle.sheet.specs.Bits.{packed, bytesOf}
+use Rattle.sheet.specs.Layout.{Edition, headWidths, distanceWidth, entryWidths, byteCount, fillWidth}
+
+-- "side (0 right, 1 left ..)"
+abbrev pub sideBit : Bool → ℕ
+sideBit false = 0
+sideBit true = 1
+
+-- The head's fields: edition, n, V, e, start.
+abbrev pub headValues : Edition → Line → List ℕ
+headValues E line = E .number ∷ line .count ∷ line .speed ∷ line .crossfall ∷ line .start ∷ []
+
+-- The fields of entry i: distance i, then side, A, R, L of the curve after it.
+abbrev pub entryValues : Line → ℕ → List ℕ
+entryValues line i =
+    distanceAt line i
+    ∷ sideBit (curveAt line i .left)
+    ∷ curveAt line i .deflection
+    ∷ curveAt line i .radius
+    ∷ curveAt line i .spiral
+    ∷ []
+
+-- The first i entries behind the bits of `before`, as one number: "distance 0, curve 1, distance 1, .."
+unfoldable pub entriesAfter : Line → ℕ → ℕ → ℕ
+entriesAfter line zero before = before
+entriesAfter line (suc i) before = packed (entriesAfter line i before) entryWidths (entryValues line i)
+
+-- The head and the first i entries.
+unfoldable pub numberTo : Edition → Line → ℕ → ℕ
+numberTo E line i = entriesAfter line i (packed 0 (headWidths E) (headValues E line))
+
+-- All bits of a sheet: head, n entries, the last distance, and the zero bits that fill the last byte.
+unfoldable pub sheetNumber : Edition → Line → ℕ
+sheetNumber E line =
+    packed (numberTo E line (line .count)) (distanceWidth ∷ fillWidth E (line .count) ∷ []) (distanceAt line (line .count) ∷ 0 ∷ [])
+
+-- The sheet of a line: its bytes.
+unfoldable pub sheetOf : Edition → Line → List ℕ
+sheetOf E line = bytesOf (byteCount E (line .count)) (sheetNumber E line)
+
+-- "Writer: 3 to 6, 8 to 11 likewise, 16", for `room` bytes lent
+unfoldable pub writeOutcome : Edition → Line → ℕ → Outcome
+writeOutcome E line room = lineOutcome line ▹ need (leb (byteCount E (line .count)) room) 16 0
+
+-- What is answered: "returns its length in bytes", or the first refusal.
+unfoldable pub writeAnswer : Edition → Line → ℕ → FillReply
+writeAnswer E line room = countAfter (writeOutcome E line room) (byteCount E (line .count))
+
+-- What the bytes then hold: "the sheet at the front of the lent bytes", the others untouched; after a refusal, what they held.
+unfoldable pub writeBytes : Edition → Line → List ℕ → List ℕ
+writeBytes E line bytes = bufferAfter (writeOutcome E line (length bytes)) (sheetOf E line) bytes
