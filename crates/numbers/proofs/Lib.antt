@@ -4,3 +4,4 @@ pub mod Ranges
 pub mod Tests
 pub mod Tables
 pub mod Products
+pub mod Stores

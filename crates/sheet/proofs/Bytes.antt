@@ -2,13 +2,13 @@
 use mathlib.Core.Path.{_≡_, refl, sym, _∙_, ap}
 use mathlib.Core.List.{List, [], _∷_, _++_}
 use Prim.Native.Nat.{ℕ, zero, suc, _+_, _-_, _*_, _/_, _%_, _^_, _≤_, _<_}
-use native.Mathlib.Nat.{zero-mul, zero-add, add-zero, add-mul, mul-assoc, add-assoc, mul-add-div-right, mul-add-mod-self-right, mul-one, mod-lt, mod-eq-of-lt, mod-one}
+use native.Mathlib.Nat.{zero-mul, zero-add, add-zero, add-mul, mul-assoc, add-assoc, mul-add-div-right, mul-add-mod-self-right, mul-one, mod-lt, mod-eq-of-lt, mod-one, div-one}
 use native.Mathlib.Numerals.{add-one}
 use native.Mathlib.Omega.{arith}
 use lib.Arith.{digits-lt}
 use lib.ListN.{length, take, drop, getD, set, length-append, length-drop, take-append-drop}
-use lib.Pow.{pow-add, pow-pos, high, split, mod-pow-add}
-use lib.Seq.{take-suc, getD-drop, take-suc-set}
+use lib.Pow.{pow-add, pow-pos, high, shr-lt, split, mod-pow-add}
+use lib.Seq.{length-take-le, take-suc, getD-drop, take-suc-set, take-at, drop-at}
 use Rattle.sheet.specs.Bits.{Bytes, valueOf, bytesOf}
 
 -- ---- the number that bytes spell
@@ -28,6 +28,24 @@ value-snoc xs b = value-append xs (b ∷ []) ∙ simp (mul-one, add-zero)
 pub value-step : (s : List ℕ) (i : ℕ) → i < length s → valueOf (take (i + 1) s) ≡ valueOf (take i s) * 256 + getD s i 0
 value-step s i h = rw (add-one, take-suc s i 0 h) (value-snoc (take i s) (getD s i 0))
 
+-- Four bytes more, as one number.
+pub four-more : (s : List ℕ) (i a b c d : ℕ) → i + 4 ≤ length s → a ≡ getD s i 0 → b ≡ getD s (i + 1) 0 → c ≡ getD s (i + 2) 0 → d ≡ getD s (i + 3) 0
+    → valueOf (take (i + 4) s) ≡ valueOf (take i s) * 2 ^ 32 + (((a * 256 + b) * 256 + c) * 256 + d)
+four-more s i a b c d h p q r t =
+    let step : (j k : ℕ) → k ≡ j + 1 → j < length s → valueOf (take k s) ≡ valueOf (take j s) * 256 + getD s j 0 =
+    λ j k e l. ap (λ (n : ℕ). valueOf (take n s)) e ∙ value-step s j l in
+    omega (
+      arith,
+      step i (i + 1) refl (omega arith),
+      step (i + 1) (i + 2) (omega arith) (omega arith),
+      step (i + 2) (i + 3) (omega arith) (omega arith),
+      step (i + 3) (i + 4) (omega arith) (omega arith),
+      p,
+      q,
+      r,
+      t,
+    )
+
 pub value-lt : (xs : List ℕ) → Bytes xs → valueOf xs < 2 ^ (8 * length xs)
 unfolding valueOf
 value-lt [] h = omega arith
@@ -44,10 +62,18 @@ value-take s k b h =
     rw length-drop at (value-lt (drop k s) (λ i. rw getD-drop (b (k + i)))) in
     ap (λ (n : ℕ). n / 2 ^ (8 * (length s - k))) e ∙ high _ _ l
 
+-- The bytes of a word.
+pub word-bytes : (w : ℕ) → w < 2 ^ 32 → (w / 2 ^ 24 ∷ w / 2 ^ 16 % 256 ∷ w / 2 ^ 8 % 256 ∷ w % 256 ∷ []) ≡ bytesOf 4 w
+unfolding bytesOf
+word-bytes w h =
+    let first : w / 2 ^ 24 ≡ w / 2 ^ 24 % 256 = sym (mod-eq-of-lt (omega arith)) in
+    let last : w % 256 ≡ w / 1 % 256 = ap (λ (x : ℕ). x % 256) (sym (div-one w)) in
+    λ j. first j ∷ w / 2 ^ 16 % 256 ∷ w / 2 ^ 8 % 256 ∷ last j ∷ []
+
 -- A byte is stored, and the rest of the bits that wait stay.
 pub store-step : (bytes : List ℕ) (at pending held : ℕ) → at < length bytes → 8 ≤ held
     → valueOf (take (at + 1) (set bytes at (pending / 2 ^ (held - 8)))) * 2 ^ (held - 8) + pending % 2 ^ (held - 8)
-      ≡ valueOf (take at bytes) * 2 ^ held + pending
+    ≡ valueOf (take at bytes) * 2 ^ held + pending
 store-step bytes at pending held h l =
     let e : held ≡ 8 + (held - 8) = omega arith in
     let p : 2 ^ held ≡ 256 * 2 ^ (held - 8) = ap (λ (n : ℕ). 2 ^ n) e ∙ pow-add 2 8 (held - 8) in
@@ -78,6 +104,29 @@ value-bytes zero x = sym (mod-one x)
 value-bytes (suc k) x =
     let e : 8 * suc k ≡ 8 + 8 * k = omega arith in
     rw (e, length-bytes k x, value-bytes k x) (sym (mod-pow-add x 8 (8 * k)))
+
+-- A word is stored, and the rest of the bits that wait stay.
+pub word-stored : (b b′ : List ℕ) (at pending held : ℕ) → at + 4 ≤ length b → 32 ≤ held → pending < 2 ^ held
+    → b′ ≡ take at b ++ bytesOf 4 (pending / 2 ^ (held - 32)) ++ drop (at + 4) b
+    → (valueOf (take (at + 4) b′) * 2 ^ (held - 32) + pending % 2 ^ (held - 32) ≡ valueOf (take at b) * 2 ^ held + pending)
+    × (drop (at + 4) b′ ≡ drop (at + 4) b)
+word-stored b b′ at pending held room h l e =
+    let left : ℕ = held - 32 in
+    let word : ℕ = pending / 2 ^ left in
+    let sum : held ≡ 32 + left = omega arith in
+    let fits : word < 2 ^ 32 = shr-lt 32 left (rw sum at l) in
+    let front : List ℕ = take at b ++ bytesOf 4 word in
+    let size : length front ≡ at + 4 =
+    length-append (take at b) (bytesOf 4 word) ∙ (λ j. length-take-le at b (omega arith) j + length-bytes 4 word j) in
+    let value : valueOf front ≡ valueOf (take at b) * 2 ^ 32 + word =
+    value-append (take at b) (bytesOf 4 word)
+    ∙ (λ j. valueOf (take at b) * 2 ^ (8 * length-bytes 4 word j) + (value-bytes 4 word ∙ mod-eq-of-lt fits) j) in
+    let took : take (at + 4) b′ ≡ front = ap (take (at + 4)) e ∙ take-at front (drop (at + 4) b) (at + 4) size in
+    let power : 2 ^ held ≡ 2 ^ 32 * 2 ^ left = ap (λ (n : ℕ). 2 ^ n) sum ∙ pow-add 2 32 left in (
+      ap (λ (xs : List ℕ). valueOf xs * 2 ^ left + pending % 2 ^ left) took
+          ∙ rw (value, power, add-mul, mul-assoc, add-assoc, split),
+      ap (drop (at + 4)) e ∙ drop-at front (drop (at + 4) b) (at + 4) size,
+    )
 
 -- The low bytes are those of the low bits.
 bytes-low : (k h v : ℕ) → bytesOf k (h * 2 ^ (8 * k) + v) ≡ bytesOf k v

@@ -2,14 +2,13 @@
 use mathlib.Core.Path.{_≡_, refl, sym, _∙_, ap}
 use mathlib.Core.List.{List, [], _∷_}
 use Prim.Native.Nat.{ℕ, zero, suc, _+_, _-_, _*_, _/_, _%_, _^_, _≤_, _<_}
-use native.Mathlib.Nat.{add-zero, add-assoc, mul-assoc, one-mul, mod-lt, mul-add-div-right, mul-add-mod-self-right}
-use native.Mathlib.Numerals.{add-one}
+use native.Mathlib.Nat.{add-zero, add-assoc, mul-assoc, one-mul, div-one, mod-lt, mul-add-div-right, mul-add-mod-self-right}
 use native.Mathlib.Omega.{arith}
 use lib.Arith.{digits-lt, digits-div, digits-mod}
 use lib.ListN.{length, take, getD}
-use lib.Pow.{pow-add, pow-pos, shr-shr, shl-exact, split}
-use Rattle.sheet.specs.Bits.{Bytes, valueOf, bitsAt, valuesAt, packed, total, Fit, Narrow}
-use Rattle.sheet.proofs.Bytes.{value-take}
+use lib.Pow.{pow-add, pow-pos, shr-shr, shl-exact, split, mod-pow-add}
+use Rattle.sheet.specs.Bits.{Bytes, valueOf, bitsAt, valuesAt, packed, total, Fit}
+use Rattle.sheet.proofs.Bytes.{value-step, value-take}
 
 -- The number in the first b bits.
 abbrev pub upTo : List ℕ → ℕ → ℕ
@@ -66,74 +65,9 @@ packed-lt b x (w ∷ ws) [] f h = absurd f
 packed-lt b x (w ∷ ws) (v ∷ vs) f h =
     rw (← add-assoc b w (total ws)) (packed-lt (b + w) (x * 2 ^ w + v) ws vs (f .1) (rw pow-add (digits-lt h (f .0))))
 
--- ---- the field at an index
+-- ---- a field out of the bytes that hold it
 
-pub narrow-at : (ws : List ℕ) (i : ℕ) → Narrow ws → getD ws i 0 ≤ 32
-narrow-at [] i n = omega arith
-narrow-at (w ∷ ws) zero n = n .0
-narrow-at (w ∷ ws) (suc i) n = narrow-at ws i (n .1)
-
-pub fit-at : (ws vs : List ℕ) (i : ℕ) → Fit ws vs → getD vs i 0 < 2 ^ getD ws i 0
-fit-at [] [] i f = omega arith
-fit-at [] (v ∷ vs) i f = absurd f
-fit-at (w ∷ ws) [] i f = absurd f
-fit-at (w ∷ ws) (v ∷ vs) zero f = f .0
-fit-at (w ∷ ws) (v ∷ vs) (suc i) f = fit-at ws vs i (f .1)
-
-pub fit-length : (ws vs : List ℕ) → Fit ws vs → length vs ≡ length ws
-fit-length [] [] f = refl
-fit-length [] (v ∷ vs) f = absurd f
-fit-length (w ∷ ws) [] f = absurd f
-fit-length (w ∷ ws) (v ∷ vs) f = ap suc (fit-length ws vs (f .1))
-
--- The bits of one field more.
-pub total-step : (ws : List ℕ) (i : ℕ) → i < length ws → total (take (i + 1) ws) ≡ total (take i ws) + getD ws i 0
-total-step ws i h = rw (add-one i) (go ws i h)
-  where
-    go : (ws : List ℕ) (i : ℕ) → i < length ws → total (take (suc i) ws) ≡ total (take i ws) + getD ws i 0
-    go [] i h = absurd (omega arith)
-    go (w ∷ ws) zero h = omega arith
-    go (w ∷ ws) (suc i) h = omega (arith, go ws i (omega arith))
-
-pub total-within : (ws : List ℕ) (i : ℕ) → total (take i ws) + getD ws i 0 ≤ total ws
-total-within [] zero = omega arith
-total-within [] (suc i) = omega arith
-total-within (w ∷ ws) zero = omega arith
-total-within (w ∷ ws) (suc i) = omega (arith, total-within ws i)
-
-pub total-narrow : (ws : List ℕ) → Narrow ws → total ws ≤ 32 * length ws
-total-narrow [] n = omega arith
-total-narrow (w ∷ ws) n = omega (arith, n .0, total-narrow ws (n .1))
-
-pub value-at : (s : List ℕ) (from : ℕ) (ws : List ℕ) (i : ℕ) → i < length ws
-    → bitsAt s (from + total (take i ws)) (getD ws i 0) ≡ getD (valuesAt s from ws) i 0
-unfolding valuesAt
-value-at s from [] i h = absurd (omega arith)
-value-at s from (w ∷ ws) zero h = rw (add-zero from)
-value-at s from (w ∷ ws) (suc i) h =
-    rw (← add-assoc from w (total (take i ws))) (value-at s (from + w) ws i (omega arith))
-
-pub values-length : (s : List ℕ) (from : ℕ) (ws : List ℕ) → length (valuesAt s from ws) ≡ length ws
-unfolding valuesAt
-values-length s from [] = refl
-values-length s from (w ∷ ws) = ap suc (values-length s (from + w) ws)
-
--- One field more is packed.
-pub packed-step : (x : ℕ) (ws vs : List ℕ) (i : ℕ) → Fit ws vs → i < length ws
-    → packed x (take (i + 1) ws) (take (i + 1) vs) ≡ packed x (take i ws) (take i vs) * 2 ^ getD ws i 0 + getD vs i 0
-unfolding packed
-packed-step x ws vs i f h = rw (add-one i) (go x ws vs i f h)
-  where
-    go : (x : ℕ) (ws vs : List ℕ) (i : ℕ) → Fit ws vs → i < length ws
-        → packed x (take (suc i) ws) (take (suc i) vs) ≡ packed x (take i ws) (take i vs) * 2 ^ getD ws i 0 + getD vs i 0
-    go x [] vs i f h = absurd (omega arith)
-    go x (w ∷ ws) [] i f h = absurd f
-    go x (w ∷ ws) (v ∷ vs) zero f h = refl
-    go x (w ∷ ws) (v ∷ vs) (suc i) f h = go (x * 2 ^ w + v) ws vs i (f .1) (omega arith)
-
--- ---- what the loop of `bits_at` finds
-
--- `number` is that in the bytes from `first` up to `last`, the one after the field's last byte.
+-- `number` is that of the bytes from `first` up to `last`, and the field lies within them.
 pub field-found : (s : List ℕ) (from width first last number front : ℕ) → Bytes s → last ≤ length s
     → 8 * first ≤ from → from + width ≤ 8 * last
     → valueOf (take last s) ≡ front * 2 ^ (8 * (last - first)) + number
@@ -149,6 +83,36 @@ field-found s from width first last number front b l lo up e =
     ∙ ap (λ (n : ℕ). n / 2 ^ q) (value-take s last b l ∙ e ∙ rw e₂ (simp (pow-add, mul-assoc)))) in
     rw (e₃, mul-add-div-right (pow-pos q), mul-add-mod-self-right)
 
+-- A field in two parts.
+pub two-parts : (s : List ℕ) (from w w′ : ℕ) → from + w + w′ ≤ 8 * length s
+    → bitsAt s from w * 2 ^ w′ + bitsAt s (from + w) w′ ≡ bitsAt s from (w + w′)
+unfolding bitsAt
+two-parts s from w w′ h =
+    let e : 8 * length s - (from + w) ≡ 8 * length s - (from + w + w′) + w′ = omega arith in
+    rw (e, ← add-assoc from w w′, ← shr-shr (valueOf s) (8 * length s - (from + w + w′)) w′)
+    (sym (mod-pow-add (valueOf s / 2 ^ (8 * length s - (from + w + w′))) w w′))
+
 -- The code's `1 << w`.
-pub power : {w : ℕ} → w < 64 → 1 * 2 ^ w % 18446744073709551616 ≡ 2 ^ w
-power {w} h = shl-exact {a = 1} 1 w 64 (omega arith) (omega arith) ∙ one-mul (2 ^ w)
+pub power : (bits : ℕ) {w : ℕ} → w < bits → 1 * 2 ^ w % 2 ^ bits ≡ 2 ^ w
+power bits {w} h = shl-exact {a = 1} 1 w bits (omega arith) (omega arith) ∙ one-mul (2 ^ w)
+
+-- A field in the word of four bytes where it begins.
+pub word-field : (s : List ℕ) (from width word : ℕ) → Bytes s → from / 8 + 4 ≤ length s → width ≤ 25
+    → valueOf (take (from / 8 + 4) s) ≡ valueOf (take (from / 8) s) * 2 ^ 32 + word
+    → word / 2 ^ (32 - from % 8 - width) % 2 ^ width ≡ bitsAt s from width
+word-field s from width word b l w e =
+    let first : ℕ = from / 8 in
+    let shift : 32 - from % 8 - width ≡ 8 * (first + 4) - (from + width) = omega arith in
+    let bits : 8 * (first + 4 - first) ≡ 32 = omega arith in
+    rw shift (field-found s from width first (first + 4) word (valueOf (take first s)) b l (omega arith) (omega arith) (rw bits e))
+
+-- A field at the end of the last byte.
+pub last-field : (s : List ℕ) (width byte : ℕ) → Bytes s → 1 ≤ length s → width < 8 → byte ≡ getD s (length s - 1) 0
+    → byte % 2 ^ width ≡ bitsAt s (8 * length s - width) width
+last-field s width byte b h w e =
+    let n : ℕ = length s - 1 in
+    let bits : 8 * (n + 1 - n) ≡ 8 = omega arith in
+    let none : 8 * (n + 1) - (8 * length s - width + width) ≡ 0 = omega arith in
+    ap (λ (x : ℕ). x % 2 ^ width) (sym (div-one byte) ∙ ap (λ (k : ℕ). byte / 2 ^ k) (sym none))
+    ∙ field-found s (8 * length s - width) width n (n + 1) byte (valueOf (take n s)) b (omega arith) (omega arith) (omega arith)
+    (rw (bits, e) (value-step s n (omega arith)))

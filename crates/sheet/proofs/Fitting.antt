@@ -6,13 +6,8 @@ use Rattle.line.specs.declared.Line.{Line}
 use Rattle.line.specs.Checks.{greatestStart, distanceAt, curveAt}
 use Rattle.line.specs.Ranges.{LineInRange}
 use Rattle.sheet.specs.Bits.{Fit}
-use Rattle.sheet.specs.Layout.{Edition, firstEdition, headWidths, distanceWidth, entryWidths}
+use Rattle.sheet.specs.Layout.{Edition, firstEdition, Holds, headWidths, distanceWidth, entryWidths}
 use Rattle.sheet.specs.Writing.{sideBit, headValues, entryValues}
-
--- An edition whose number and greatest start have room in the head.
-pub record Holds (E : Edition) : Type 0 where
-  pub number : E .number < 2 ^ 4
-  pub start : greatestStart < 2 ^ E .startWidth
 
 side-fits : (left : Bool) → sideBit left < 2 ^ 1
 side-fits false = omega arith

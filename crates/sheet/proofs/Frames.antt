@@ -5,17 +5,18 @@ use mathlib.Core.List.{List}
 use Prim.Native.Nat.{ℕ, _≤_, _<_}
 use native.Mathlib.Omega.{arith}
 use lib.Dec.{leb, eqb}
-use lib.ListN.{length, getD}
+use lib.ListN.{length}
 use borrow.Author.Tests.{le-leb, lt-leb, leb-true, eqb-true}
 use Rattle.numbers.proofs.Tests.{both-left, both-right}
 use Rattle.refusals.specs.Outcomes.{Outcome, passed, refused, need, _▹_}
 use Rattle.refusals.proofs.Joining.{passed-left, passed-right, need-holds, join, tested}
 use Rattle.line.specs.Checks.{headOutcome}
 use Rattle.line.proofs.InRange.{few-curves}
+use Rattle.sheet.specs.declared.reader.Head.{Head}
 use Rattle.sheet.specs.Bits.{bitsAt, valuesAt}
-use Rattle.sheet.specs.Layout.{Edition, headWidths, bitCount, byteCount, fillWidth}
+use Rattle.sheet.specs.Layout.{Edition, bitCount, byteCount, fillWidth}
 use Rattle.sheet.proofs.Fields.{bits-lt}
-use Rattle.sheet.specs.Reading.{headField, countOf, sizeOutcome, frameOutcome}
+use Rattle.sheet.specs.Reading.{headOf, countOf, sizeOutcome, frameOutcome}
 
 module _ (E : Edition) (s : List ℕ) where
   -- ---- 1 (full length) and 7
@@ -41,18 +42,21 @@ module _ (E : Edition) (s : List ℕ) where
   unfolding frameOutcome
   no-head h = rw (lt-leb 7 (length s) h)
 
-  pub framed-by : {head : List ℕ} {edition fields size : Outcome} → 7 ≤ length s → head ≡ valuesAt s 0 (headWidths E)
-      → edition ≡ need (eqb (getD head 0 0) (E .number)) 2 0
-      → fields ≡ headOutcome (getD head 1 0) (getD head 2 0) (getD head 3 0) (getD head 4 0)
-      → size ≡ sizeOutcome E s (getD head 1 0)
+  pub framed-by : {head : Head} {edition fields size : Outcome} → 7 ≤ length s → head ≡ headOf E s
+      → edition ≡ need (eqb (head .edition) (E .number)) 2 0
+      → fields ≡ headOutcome (head .count) (head .speed) (head .crossfall) (head .start)
+      → size ≡ sizeOutcome E s (head .count)
       → (edition ▹ fields ▹ size) ≡ frameOutcome E s
-  unfolding frameOutcome headField
-  framed-by h v e f z = rw (le-leb 7 (length s) h, ← v) (join e (join f z))
+  unfolding frameOutcome
+  framed-by h v e f z =
+      rw (le-leb 7 (length s) h)
+      (join e (join f z)
+      ∙ λ j. need (eqb (v j .edition) (E .number)) 2 0 ▹ headOutcome (v j .count) (v j .speed) (v j .crossfall) (v j .start) ▹ sizeOutcome E s (v j .count))
 
   -- A sheet that passes 1 to 7.
   pub record Framed : Type 0 where
-    pub edition : headField E s 0 ≡ E .number
-    pub head : headOutcome (countOf E s) (headField E s 2) (headField E s 3) (headField E s 4) ≡ passed
+    pub edition : headOf E s .edition ≡ E .number
+    pub head : headOutcome (countOf E s) (headOf E s .speed) (headOf E s .crossfall) (headOf E s .start) ≡ passed
     pub few : countOf E s ≤ 64
     pub size : length s ≡ byteCount E (countOf E s)
     pub fill : bitsAt s (bitCount E (countOf E s)) (fillWidth E (countOf E s)) ≡ 0
@@ -61,8 +65,8 @@ module _ (E : Edition) (s : List ℕ) where
   unfolding frameOutcome sizeOutcome
   framed h =
       let n = countOf E s in
-      let edition = need (eqb (headField E s 0) (E .number)) 2 0 in
-      let fields = headOutcome n (headField E s 2) (headField E s 3) (headField E s 4) in
+      let edition = need (eqb (headOf E s .edition) (E .number)) 2 0 in
+      let fields = headOutcome n (headOf E s .speed) (headOf E s .crossfall) (headOf E s .start) in
       let long = need (leb (byteCount E n) (length s)) 1 0 in
       let h₁ = passed-right (need (leb 7 (length s)) 1 0) _ h in
       let h₂ = passed-right edition _ h₁ in
@@ -79,12 +83,7 @@ module _ (E : Edition) (s : List ℕ) where
         fill = eqb-true _ 0 (both-right (leb (length s) (byteCount E n)) _ full);
       }
 
--- n, as the code reads it.
-pub count-read : (E : Edition) (s : List ℕ) {head : List ℕ} → head ≡ valuesAt s 0 (headWidths E) → getD head 1 0 ≡ countOf E s
-unfolding headField
-count-read E s e = ap (λ (l : List ℕ). getD l 1 0) e
-
 -- n has seven bits.
-pub count-below : (E : Edition) (s : List ℕ) {head : List ℕ} → head ≡ valuesAt s 0 (headWidths E) → getD head 1 0 < 128
-unfolding valuesAt
-count-below E s {head} e = rw (ap (λ (l : List ℕ). getD l 1 0) e) (bits-lt s 4 7)
+pub count-below : (E : Edition) (s : List ℕ) {head : Head} → head ≡ headOf E s → head .count < 128
+unfolding headOf valuesAt
+count-below E s e = rw (ap (λ (h : Head). h .count) e) (bits-lt s 4 7)

@@ -3,7 +3,7 @@ pub mod Bytes
 pub mod Fields
 pub mod Pens
 pub mod Fitting
-pub mod SheetSteps
 pub mod Frames
 pub mod LineSteps
+pub mod SheetSteps
 pub mod WaysOut

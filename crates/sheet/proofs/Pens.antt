@@ -1,16 +1,17 @@
 -- What is written, one field after the other. Assumes nothing.
 use mathlib.Core.Path.{_≡_, refl, sym, _∙_, ap}
 use mathlib.Core.List.{List, _++_}
-use Prim.Native.Nat.{ℕ, _+_, _-_, _*_, _≤_}
-use native.Mathlib.Nat.{add-zero, mul-one}
+use Prim.Native.Nat.{ℕ, _+_, _-_, _*_, _/_, _%_, _^_, _≤_, _<_}
+use native.Mathlib.Nat.{add-zero, mul-one, add-mul, mul-assoc, add-assoc, mod-lt}
 use native.Mathlib.Omega.{arith}
-use lib.Arith.{lt-one}
+use lib.Arith.{digits-lt, lt-one}
 use lib.ListN.{length, take, drop, take-append-drop}
+use lib.Pow.{pow-add, pow-pos}
 use lib.Seq.{drop-drop, length-take-le}
 use Rattle.sheet.specs.declared.pen.Pen.{Pen}
 use Rattle.sheet.specs.Bits.{Bytes, valueOf, bytesOf}
 use Rattle.sheet.specs.Pens.{written, Ready, Put}
-use Rattle.sheet.proofs.Bytes.{bytes-value, bytes-take}
+use Rattle.sheet.proofs.Bytes.{word-stored, bytes-value, bytes-take}
 
 -- What agrees from m on agrees from any later n on.
 pub further : (m n : ℕ) (a b : List ℕ) → m ≤ n → drop m a ≡ drop m b → drop n a ≡ drop n b
@@ -20,7 +21,7 @@ further m n a b h e =
 
 -- Nothing is written.
 pub put-none : (b : List ℕ) (p : Pen) → Ready p → Put b b p p 0 (λ x. x)
-put-none b p r = record { ready = r; moved = omega arith; number = refl; rest = refl }
+put-none b p r = record { ready = r; moved = omega arith; onward = omega arith; number = refl; rest = refl }
 
 -- Two writes after one another are one.
 pub put-put : {b₀ b₁ b₂ : List ℕ} {p q r : Pen} {w w′ : ℕ} {f g : ℕ → ℕ} → Put b₀ b₁ p q w f → Put b₁ b₂ q r w′ g
@@ -29,15 +30,63 @@ put-put {b₀} {b₁} {q} {r} {g} h k =
     record {
       ready = k .ready;
       moved = omega (arith, h .moved, k .moved);
+      onward = omega (arith, h .onward, k .onward);
       number = k .number ∙ ap g (h .number);
-      rest = k .rest ∙ further (q .at) (r .at) b₁ b₀ (omega (arith, h .ready .held, h .moved, k .moved, k .ready .held)) (h .rest);
+      rest = k .rest ∙ further (q .at) (r .at) b₁ b₀ (k .onward) (h .rest);
     }
 
 -- The same write, said otherwise.
 pub put-as : {b b′ : List ℕ} {p q : Pen} {w w′ : ℕ} {f g : ℕ → ℕ} → Put b b′ p q w f → w ≡ w′ → ((x : ℕ) → f x ≡ g x)
     → Put b b′ p q w′ g
 put-as {b} {p} h e same =
-    record { ready = h .ready; moved = omega (arith, h .moved, e); number = h .number ∙ same (written b p); rest = h .rest }
+    record { ready = h .ready; moved = omega (arith, h .moved, e); onward = h .onward; number = h .number ∙ same (written b p); rest = h .rest }
+
+-- ---- one field
+
+module _ (b : List ℕ) (p : Pen) (width value : ℕ) (ready : Ready p) (fits : value < 2 ^ width) where
+  pub pending-lt : p .pending * 2 ^ width + value < 2 ^ (p .held + width)
+  pending-lt = rw pow-add (digits-lt (ready .pending) fits)
+
+  grown : valueOf (take (p .at) b) * 2 ^ (p .held + width) + (p .pending * 2 ^ width + value) ≡ written b p * 2 ^ width + value
+  unfolding written
+  grown = rw pow-add (simp (add-mul, mul-assoc, add-assoc))
+
+  -- It waits.
+  pub field-waits : p .held + width < 32
+      → Put b b p (record { at = p .at; pending = p .pending * 2 ^ width + value; held = p .held + width }) width (λ x. x * 2 ^ width + value)
+  unfolding written
+  field-waits h =
+      record {
+        ready = record { held = h; pending = pending-lt };
+        moved = omega arith;
+        onward = omega arith;
+        number = grown;
+        rest = refl;
+      }
+
+  -- It fills a word.
+  pub field-stored : (b′ : List ℕ) → width ≤ 32 → 32 ≤ p .held + width → p .at + 4 ≤ length b
+      → b′ ≡ take (p .at) b ++ bytesOf 4 ((p .pending * 2 ^ width + value) / 2 ^ (p .held + width - 32)) ++ drop (p .at + 4) b
+      → Put b b′ p
+      (record {
+        at = p .at + 4;
+        pending = (p .pending * 2 ^ width + value) % 2 ^ (p .held + width - 32);
+        held = p .held + width - 32;
+      })
+      width
+      (λ x. x * 2 ^ width + value)
+  unfolding written
+  field-stored b′ w h room e =
+      let stored = word-stored b b′ (p .at) (p .pending * 2 ^ width + value) (p .held + width) room h pending-lt e in
+      record {
+        ready = record { held = omega (arith, ready .held); pending = mod-lt _ (pow-pos (p .held + width - 32)) };
+        moved = omega arith;
+        onward = omega arith;
+        number = stored .0 ∙ grown;
+        rest = stored .1;
+      }
+
+-- ---- whole bytes
 
 -- Nothing is written yet.
 abbrev pub newPen : Pen
@@ -45,11 +94,12 @@ newPen = record { at = 0; pending = 0; held = 0 }
 
 -- Whole bytes are written: they are the number's, and the others are as before.
 pub bytes-written : {lent b : List ℕ} {q : Pen} {w : ℕ} {f : ℕ → ℕ} (k : ℕ) → Put lent b newPen q w f → w ≡ 8 * k → k ≤ length lent
+    → q .held < 8
     → length b ≡ length lent → Bytes b → b ≡ bytesOf k (f 0) ++ drop k lent
 unfolding written valueOf
-bytes-written {lent} {b} {q} {w} {f} k h whole room same bytes =
-    let at : q .at ≡ k = omega (arith, h .moved, h .ready .held, whole) in
-    let held : q .held ≡ 0 = omega (arith, h .moved, h .ready .held, whole) in
+bytes-written {lent} {b} {q} {w} {f} k h whole room few same bytes =
+    let at : q .at ≡ k = omega (arith, h .moved, few, whole) in
+    let held : q .held ≡ 0 = omega (arith, h .moved, few, whole) in
     let none : q .pending ≡ 0 = lt-one (rw held at (h .ready .pending)) in
     let number : valueOf (take k b) ≡ f 0 = sym (add-zero _ ∙ mul-one _) ∙ (rw (at, held, none) at (h .number)) in
     let size : length (take k b) ≡ k = length-take-le k b (omega (arith, same)) in

@@ -1,39 +1,37 @@
 -- The writer's sheet, entry by entry. Assumes nothing.
 use mathlib.Core.Path.{_≡_, refl, sym, _∙_, ap}
 use mathlib.Core.List.{List, [], _∷_, _++_}
-use Prim.Native.Nat.{ℕ, _+_, _*_, _^_, _≤_}
+use Prim.Native.Nat.{ℕ, _+_, _*_, _^_, _≤_, _<_}
 use native.Mathlib.Numerals.{add-one}
 use native.Mathlib.Omega.{arith}
 use lib.ListN.{length, drop}
 use Rattle.line.specs.declared.Line.{Line}
-use Rattle.line.specs.Checks.{distanceAt, curveAt}
+use Rattle.line.specs.Checks.{distanceAt}
 use Rattle.sheet.specs.declared.pen.Pen.{Pen}
 use Rattle.sheet.specs.Bits.{Bytes, packed, total}
 use Rattle.sheet.specs.Layout.{Edition, headWidths, distanceWidth, entryWidths, byteCount, fillWidth}
-use Rattle.sheet.specs.Writing.{sideBit, headValues, entriesAfter, numberTo, sheetNumber, sheetOf}
+use Rattle.sheet.specs.Writing.{headValues, entryValues, entriesAfter, numberTo, sheetNumber, sheetOf}
 use Rattle.sheet.specs.Pens.{Put}
 use Rattle.sheet.proofs.Pens.{newPen, put-put, put-as, bytes-written}
 
 -- One entry more, at the code's `i + 1`.
-pub entry-after : (line : Line) (i x : ℕ) {side : ℕ} → side ≡ sideBit (curveAt line i .left)
-    → packed (entriesAfter line i x) entryWidths
-      (distanceAt line i ∷ side ∷ curveAt line i .deflection ∷ curveAt line i .radius ∷ curveAt line i .spiral ∷ [])
-      ≡ entriesAfter line (i + 1) x
+pub entry-after : (line : Line) (i x : ℕ) → packed (entriesAfter line i x) entryWidths (entryValues line i) ≡ entriesAfter line (i + 1) x
 unfolding entriesAfter
-entry-after line i x e = rw (e, add-one i)
+entry-after line i x = rw (add-one i)
 
 -- Head, entries, last distance and fill are written: the bytes are the sheet's, and the others as before.
-pub sheet-written : (E : Edition) (line : Line) {lent b₁ b₂ b₃ b : List ℕ} {p₁ p₂ p₃ q : Pen} {i width : ℕ}
+pub sheet-written : (E : Edition) (line : Line) {lent b₁ b₂ b₃ b₄ b : List ℕ} {p₁ p₂ p₃ p₄ q : Pen} {i width : ℕ}
     → Put lent b₁ newPen p₁ (total (headWidths E)) (λ x. packed x (headWidths E) (headValues E line))
     → Put b₁ b₂ p₁ p₂ (total entryWidths * i) (entriesAfter line i)
     → Put b₂ b₃ p₂ p₃ distanceWidth (λ x. x * 2 ^ distanceWidth + distanceAt line (line .count))
-    → Put b₃ b p₃ q width (λ x. x * 2 ^ width + 0)
-    → i ≡ line .count → width ≡ fillWidth E (line .count)
+    → Put b₃ b₄ p₃ p₄ width (λ x. x * 2 ^ width + 0)
+    → Put b₄ b p₄ q 0 (λ x. x)
+    → i ≡ line .count → width ≡ fillWidth E (line .count) → q .held < 8
     → byteCount E (line .count) ≤ length lent → length b ≡ length lent → Bytes b
     → b ≡ sheetOf E line ++ drop (byteCount E (line .count)) lent
 unfolding sheetOf sheetNumber numberTo packed
-sheet-written E line head entries last fill n w room same bytes =
+sheet-written E line head entries last fill flushed n w few room same bytes =
     let n′ = line .count in
     let entries′ = put-as {g = entriesAfter line n′} entries (ap (λ (k : ℕ). total entryWidths * k) n) (λ x. ap (λ (k : ℕ). entriesAfter line k x) n) in
     let fill′ = put-as {g = λ x. x * 2 ^ fillWidth E n′ + 0} fill w (λ x. ap (λ (k : ℕ). x * 2 ^ k + 0) w) in
-    bytes-written (byteCount E n′) (put-put (put-put (put-put head entries′) last) fill′) (omega arith) room same bytes
+    bytes-written (byteCount E n′) (put-put (put-put (put-put (put-put head entries′) last) fill′) flushed) (omega arith) room few same bytes

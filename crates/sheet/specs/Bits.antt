@@ -1,6 +1,6 @@
 -- Bytes as one number, and the fields in its bits (document 01, "Packed sheet": "Bits, most significant first, no gaps").
 use mathlib.Core.List.{List, [], _∷_}
-use Prim.Native.Nat.{ℕ, zero, suc, _+_, _-_, _*_, _/_, _%_, _^_, _≤_, _<_}
+use Prim.Native.Nat.{ℕ, zero, suc, _+_, _-_, _*_, _/_, _%_, _^_, _<_}
 use lib.ListN.{length, getD}
 
 -- A list of bytes.
@@ -43,8 +43,3 @@ Fit [] [] = Unit {0}
 Fit [] (value ∷ values) = ⊥
 Fit (width ∷ widths) [] = ⊥
 Fit (width ∷ widths) (value ∷ values) = (value < 2 ^ width) × Fit widths values
-
--- No width is above 32 bits.
-abbrev pub Narrow : List ℕ → Type 0
-Narrow [] = Unit {0}
-Narrow (width ∷ widths) = (width ≤ 32) × Narrow widths

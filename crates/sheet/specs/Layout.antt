@@ -1,6 +1,7 @@
 -- The layout of a sheet (document 01, "Packed sheet"): the widths of its fields, in order. Reader and writer are stated over it.
 use mathlib.Core.List.{List, [], _∷_}
-use Prim.Native.Nat.{ℕ, _+_, _-_, _*_, _/_}
+use Prim.Native.Nat.{ℕ, _+_, _-_, _*_, _/_, _^_, _<_}
+use Rattle.line.specs.Checks.{greatestStart}
 use Rattle.sheet.specs.Bits.{total}
 
 -- What sets one edition apart from another: its number and the width of the start.
@@ -11,6 +12,11 @@ pub record Edition : Type 0 where
 -- "edition 4 (value 1)", "start 28"
 abbrev pub firstEdition : Edition
 firstEdition = record { number = 1; startWidth = 28 }
+
+-- An edition whose number and greatest start have room in the head's bits.
+pub record Holds (E : Edition) : Type 0 where
+  pub number : E .number < 2 ^ 4
+  pub start : greatestStart < 2 ^ E .startWidth
 
 -- "edition 4 .., n 7, V 7, e 4, start 28"
 abbrev pub headWidths : Edition → List ℕ

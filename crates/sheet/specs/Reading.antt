@@ -1,7 +1,7 @@
 -- What a sheet means (document 01, "Packed sheet" and "Order"): its line, or the first refusal, for any list of bytes.
 use mathlib.Core.Bool.{_&&_}
 use mathlib.Core.List.{List}
-use Prim.Native.Nat.{ℕ, suc}
+use Prim.Native.Nat.{ℕ, suc, _+_}
 use lib.Dec.{leb, eqb}
 use lib.ListN.{length, getD}
 use Rattle.refusals.specs.Outcomes.{Outcome, passed, refused, need, _▹_}
@@ -9,39 +9,51 @@ use Rattle.line.specs.declared.Curve.{Curve}
 use Rattle.line.specs.declared.Line.{Line}
 use Rattle.line.specs.Checks.{headOutcome, bodyOutcome, blankCurve}
 use Rattle.line.specs.Entries.{entries, blankLine}
+use Rattle.sheet.specs.declared.reader.Head.{Head}
 use Rattle.sheet.specs.Bits.{bitsAt, valuesAt}
-use Rattle.sheet.specs.Layout.{Edition, headWidths, entryWidths, entryAt, bitCount, byteCount, fillWidth}
+use Rattle.sheet.specs.Layout.{Edition, headWidths, distanceWidth, curveWidths, entryAt, bitCount, byteCount, fillWidth}
 
--- Field k of the head: edition, n, V, e, start.
-unfoldable pub headField : Edition → List ℕ → ℕ → ℕ
-headField E sheet k = getD (valuesAt sheet 0 (headWidths E)) k 0
+-- The head of its fields, in order: edition, n, V, e, start.
+abbrev pub headFrom : List ℕ → Head
+headFrom fields =
+    record {
+      edition = getD fields 0 0;
+      count = getD fields 1 0;
+      speed = getD fields 2 0;
+      crossfall = getD fields 3 0;
+      start = getD fields 4 0;
+    }
+
+-- The curve of its fields, in order: "side (0 right, 1 left ..)", A, R, L.
+abbrev pub curveFrom : List ℕ → Curve
+curveFrom fields =
+    record { left = eqb (getD fields 0 0) 1; deflection = getD fields 1 0; radius = getD fields 2 0; spiral = getD fields 3 0 }
+
+-- The head of a sheet.
+unfoldable pub headOf : Edition → List ℕ → Head
+headOf E sheet = headFrom (valuesAt sheet 0 (headWidths E))
 
 -- n
 abbrev pub countOf : Edition → List ℕ → ℕ
-countOf E sheet = headField E sheet 1
+countOf E sheet = headOf E sheet .count
 
--- The fields of entry i: distance i, then side, A, R, L of the curve after it.
-unfoldable pub entryOf : Edition → List ℕ → ℕ → List ℕ
-entryOf E sheet i = valuesAt sheet (entryAt E i) entryWidths
+-- Distance i, and the curve after it.
+unfoldable pub distanceOf : Edition → List ℕ → ℕ → ℕ
+distanceOf E sheet i = bitsAt sheet (entryAt E i) distanceWidth
 
--- The distance and the curve of an entry: "side (0 right, 1 left ..)"
-abbrev pub distanceFrom : List ℕ → ℕ
-distanceFrom entry = getD entry 0 0
-
-abbrev pub curveFrom : List ℕ → Curve
-curveFrom entry =
-    record { left = eqb (getD entry 1 0) 1; deflection = getD entry 2 0; radius = getD entry 3 0; spiral = getD entry 4 0 }
+unfoldable pub curveOf : Edition → List ℕ → ℕ → Curve
+curveOf E sheet i = curveFrom (valuesAt sheet (entryAt E i + distanceWidth) curveWidths)
 
 -- The line with its first `distances` distances and its first `curves` curves; "The reader fills the unused entries of the line with zero."
 unfoldable pub lineTo : Edition → List ℕ → ℕ → ℕ → Line
 lineTo E sheet distances curves =
     record {
-      speed = headField E sheet 2;
-      crossfall = headField E sheet 3;
-      start = headField E sheet 4;
-      count = countOf E sheet;
-      distances = entries 65 distances (λ i. distanceFrom (entryOf E sheet i)) 0;
-      curves = entries 64 curves (λ i. curveFrom (entryOf E sheet i)) blankCurve;
+      speed = headOf E sheet .speed;
+      crossfall = headOf E sheet .crossfall;
+      start = headOf E sheet .start;
+      count = headOf E sheet .count;
+      distances = entries 65 distances (distanceOf E sheet) 0;
+      curves = entries 64 curves (curveOf E sheet) blankCurve;
     }
 
 -- The line of a sheet: n + 1 distances and n curves.
@@ -58,8 +70,8 @@ sizeOutcome E sheet n =
 unfoldable pub frameOutcome : Edition → List ℕ → Outcome
 frameOutcome E sheet =
     need (leb 7 (length sheet)) 1 0
-    ▹ need (eqb (headField E sheet 0) (E .number)) 2 0
-    ▹ headOutcome (countOf E sheet) (headField E sheet 2) (headField E sheet 3) (headField E sheet 4)
+    ▹ need (eqb (headOf E sheet .edition) (E .number)) 2 0
+    ▹ headOutcome (headOf E sheet .count) (headOf E sheet .speed) (headOf E sheet .crossfall) (headOf E sheet .start)
     ▹ sizeOutcome E sheet (countOf E sheet)
 
 -- "then 8 to 11 in sheet order"

@@ -6,6 +6,7 @@ use lib.Dec.{leb}
 use lib.ListN.{length}
 use Rattle.refusals.specs.Outcomes.{Outcome, need, _▹_}
 use Rattle.refusals.specs.Filling.{FillReply, countAfter, bufferAfter}
+use Rattle.line.specs.declared.Curve.{Curve}
 use Rattle.line.specs.declared.Line.{Line}
 use Rattle.line.specs.Checks.{distanceAt, curveAt, lineOutcome}
 use Rattle.sheet.specs.Bits.{packed, bytesOf}
@@ -20,15 +21,13 @@ sideBit true = 1
 abbrev pub headValues : Edition → Line → List ℕ
 headValues E line = E .number ∷ line .count ∷ line .speed ∷ line .crossfall ∷ line .start ∷ []
 
--- The fields of entry i: distance i, then side, A, R, L of the curve after it.
+-- A curve's fields: side, A, R, L.
+abbrev pub curveValues : Curve → List ℕ
+curveValues curve = sideBit (curve .left) ∷ curve .deflection ∷ curve .radius ∷ curve .spiral ∷ []
+
+-- The fields of entry i: distance i, then the curve after it.
 abbrev pub entryValues : Line → ℕ → List ℕ
-entryValues line i =
-    distanceAt line i
-    ∷ sideBit (curveAt line i .left)
-    ∷ curveAt line i .deflection
-    ∷ curveAt line i .radius
-    ∷ curveAt line i .spiral
-    ∷ []
+entryValues line i = distanceAt line i ∷ curveValues (curveAt line i)
 
 -- The first i entries behind the bits of `before`, as one number: "distance 0, curve 1, distance 1, .."
 unfoldable pub entriesAfter : Line → ℕ → ℕ → ℕ

@@ -1,16 +1,29 @@
-// The layout of a sheet of edition 1: the widths of its fields in bits, in order.
+// The layout of a sheet of edition 1: the widths of its fields in bits.
 ghost use mathlib.Core.Path.{_≡_};
 ghost use Prim.Native.Nat.{_<_};
 ghost use Rattle.sheet.specs.Layout.{firstEdition, entryAt, bitCount, byteCount};
 
-// The head: edition, n, V, e, start.
-pub const HEAD: [usize; 5] = [4, 7, 7, 4, 28];
+// The head.
+pub const EDITION: usize = 4;
 
-// A distance and the curve after it: distance, side, A, R, L.
-pub const ENTRY: [usize; 5] = [25, 1, 19, 23, 19];
+pub const COUNT: usize = 7;
 
-// The last distance.
+pub const SPEED: usize = 7;
+
+pub const CROSSFALL: usize = 4;
+
+pub const START: usize = 28;
+
+// A distance, and the curve after it.
 pub const DISTANCE: usize = 25;
+
+pub const SIDE: usize = 1;
+
+pub const DEFLECTION: usize = 19;
+
+pub const RADIUS: usize = 23;
+
+pub const SPIRAL: usize = 19;
 
 // The bit where distance `i` begins; the curve after it follows.
 pub fn entry_at(i: usize) -> usize
@@ -25,7 +38,7 @@ pub fn bit_count(n: usize) -> usize
     requires { ⌜ n < 128 ⌝ }
     ensures { λ r. ⌜ r ≡ bitCount firstEdition n ⌝ }
 {
-    75 + 87 * n
+    entry_at(n) + DISTANCE
 }
 
 // How many bytes a sheet of `n` curves has.
@@ -33,5 +46,5 @@ pub fn byte_count(n: usize) -> usize
     requires { ⌜ n < 128 ⌝ }
     ensures { λ r. ⌜ r ≡ byteCount firstEdition n ⌝ }
 {
-    (75 + 87 * n + 7) / 8
+    (bit_count(n) + 7) / 8
 }

@@ -1,26 +1,58 @@
 // Fields written into the caller's bytes, most significant bit first: each byte is stored once, in ascending order.
 ghost use mathlib.Core.Path.{_≡_};
+ghost use mathlib.Core.List.{_++_};
 ghost use Prim.Native.Nat.{ℕ, _+_, _*_, _^_, _<_, _≤_};
-ghost use lib.ListN.{length};
-ghost use Rattle.sheet.specs.Bits.{total, packed, Narrow, Fit};
+ghost use lib.ListN.{length, take, drop};
+ghost use Rattle.sheet.specs.Bits.{bytesOf};
 ghost use Rattle.sheet.specs.Pens.{Ready, Put, position};
 
-// How far the bytes are written: `at` of them are stored, and `held` bits wait in `pending` for a whole byte.
+// How far the bytes are written: `at` of them are stored, and `held` bits, less than a word, wait in `pending`.
 pub struct Pen {
     pub at: usize,
     pub pending: u64,
     pub held: usize,
 }
 
-// One field more, of `width` bits.
+// The four bytes of a word.
+fn store_word(bytes: &mut [u8], at: usize, word: u32)
+    requires { ⌜ at + 4 ≤ length (now bytes) ⌝ }
+    ensures { λ _. ⌜ now (bytes .exit) ≡ take at (now (bytes .entry)) ++ bytesOf 4 word ++ drop (at + 4) (now (bytes .entry)) ⌝ }
+{
+    bytes[at] = (word >> 24) as u8;
+    bytes[at + 1] = ((word >> 16) % 256) as u8;
+    bytes[at + 2] = ((word >> 8) % 256) as u8;
+    bytes[at + 3] = (word % 256) as u8;
+}
+
+// One field more, of `width` bits; a whole word is stored.
 pub fn put(bytes: &mut [u8], pen: Pen, width: usize, value: u32) -> Pen
     requires { ⌜ Ready pen ⌝ }
     requires { ⌜ (width ≤ 32) × (value < 2 ^ width) × (position pen + width ≤ 8 * length (now bytes)) ⌝ }
     ensures { λ r. ⌜ Put (now (bytes .entry)) (now (bytes .exit)) pen r width (λ x. x * 2 ^ width + value) ⌝ }
 {
-    let mut pending = (pen.pending << width) + (value as u64);
-    let mut held = pen.held + width;
+    let at = pen.at;
+    let pending = (pen.pending << width) + (value as u64);
+    let held = pen.held + width;
+    if held < 32 {
+        return Pen { at, pending, held };
+    }
+    let left = held - 32;
+    store_word(&mut *bytes, at, (pending >> left) as u32);
+    Pen {
+        at: at + 4,
+        pending: pending % (1 << left),
+        held: left,
+    }
+}
+
+// The whole bytes that wait are stored.
+pub fn flush(bytes: &mut [u8], pen: Pen) -> Pen
+    requires { ⌜ Ready pen × (position pen ≤ 8 * length (now bytes)) ⌝ }
+    ensures { λ r. ⌜ Put (now (bytes .entry)) (now (bytes .exit)) pen r 0 (λ x. x) × (r .held < 8) ⌝ }
+{
     let mut at = pen.at;
+    let mut pending = pen.pending;
+    let mut held = pen.held;
     while 8 <= held {
         held -= 8;
         bytes[at] = (pending >> held) as u8;
@@ -28,20 +60,4 @@ pub fn put(bytes: &mut [u8], pen: Pen, width: usize, value: u32) -> Pen
         at += 1;
     }
     Pen { at, pending, held }
-}
-
-// Fields of those widths and values, one after the other.
-pub fn put_fields(bytes: &mut [u8], before: Pen, widths: [usize; 5], values: [u32; 5]) -> Pen
-    requires { ⌜ Ready before ⌝ }
-    requires { ⌜ (length widths ≡ 5) × Narrow widths × Fit widths values ⌝ }
-    requires { ⌜ position before + total widths ≤ 8 * length (now bytes) ⌝ }
-    ensures { λ r. ⌜ Put (now (bytes .entry)) (now (bytes .exit)) before r (total widths) (λ x. packed x widths values) ⌝ }
-{
-    let mut pen = before;
-    let mut i = 0;
-    while i < 5 {
-        pen = put(&mut *bytes, pen, widths[i], values[i]);
-        i += 1;
-    }
-    pen
 }

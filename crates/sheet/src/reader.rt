@@ -1,15 +1,25 @@
 // The reader: the line of a sheet, or the first refusal.
 ghost use mathlib.Core.Path.{_≡_};
-ghost use Prim.Native.Nat.{_<_};
+ghost use Prim.Native.Nat.{_+_, _/_, _<_, _≤_};
+ghost use lib.ListN.{length};
 ghost use Rattle.refusals.specs.Outcomes.{passed, outcomeOf};
 ghost use Rattle.line.specs.Entries.{blankLine};
-ghost use Rattle.sheet.specs.Layout.{firstEdition};
-ghost use Rattle.sheet.specs.Reading.{curveFrom, sizeOutcome, frameOutcome, lineOf, readOutcome, readLine};
+ghost use Rattle.sheet.specs.Bits.{valuesAt};
+ghost use Rattle.sheet.specs.Layout.{firstEdition, curveWidths};
+ghost use Rattle.sheet.specs.Reading.{headOf, curveFrom, sizeOutcome, frameOutcome, lineOf, readOutcome, readLine};
 use crate::bits::bits_at;
-use crate::bits::fields_at;
+use crate::bits::last_bits;
+use crate::bits::long_bits_at;
+use crate::layout::COUNT;
+use crate::layout::CROSSFALL;
+use crate::layout::DEFLECTION;
 use crate::layout::DISTANCE;
-use crate::layout::ENTRY;
-use crate::layout::HEAD;
+use crate::layout::EDITION;
+use crate::layout::RADIUS;
+use crate::layout::SIDE;
+use crate::layout::SPEED;
+use crate::layout::SPIRAL;
+use crate::layout::START;
 use crate::layout::bit_count;
 use crate::layout::byte_count;
 use crate::layout::entry_at;
@@ -28,6 +38,32 @@ pub struct ReadAnswer {
     pub line: Line,
 }
 
+// The head's fields.
+struct Head {
+    edition: u32,
+    count: usize,
+    speed: u32,
+    crossfall: u32,
+    start: u32,
+}
+
+fn read_head(sheet: &[u8]) -> Head
+    requires { ⌜ 7 ≤ length (now sheet) ⌝ }
+    ensures { λ r. ⌜ r ≡ headOf firstEdition (now (sheet .entry)) ⌝ }
+{
+    let count_at = EDITION;
+    let speed_at = count_at + COUNT;
+    let crossfall_at = speed_at + SPEED;
+    let start_at = crossfall_at + CROSSFALL;
+    Head {
+        edition: bits_at(sheet, 0, EDITION),
+        count: bits_at(sheet, count_at, COUNT) as usize,
+        speed: bits_at(sheet, speed_at, SPEED),
+        crossfall: bits_at(sheet, crossfall_at, CROSSFALL),
+        start: long_bits_at(sheet, start_at, START),
+    }
+}
+
 // Refusals 1 and 7 of a sheet that says it has `n` curves.
 fn check_size(sheet: &[u8], n: usize) -> Verdict
     requires { ⌜ n < 128 ⌝ }
@@ -41,22 +77,18 @@ fn check_size(sheet: &[u8], n: usize) -> Verdict
     if bytes < sheet.len() {
         return Verdict::Refused(Refusal::Trailing);
     }
-    let fill = bits_at(sheet, bits, 8 * bytes - bits);
+    let fill = last_bits(sheet, 8 * bytes - bits);
     must(fill == 0, Refusal::Trailing)
 }
 
-// The first of refusals 1 to 7.
-fn check_frame(sheet: &[u8]) -> Verdict
+// The first of refusals 2 to 7.
+fn check_frame(sheet: &[u8], head: Head) -> Verdict
+    requires { ⌜ (7 ≤ length (now sheet)) × (head ≡ headOf firstEdition (now sheet)) ⌝ }
     ensures { λ r. ⌜ outcomeOf r ≡ frameOutcome firstEdition (now (sheet .entry)) ⌝ }
 {
-    if sheet.len() < 7 {
-        return Verdict::Refused(Refusal::Truncated);
-    }
-    let head = fields_at(sheet, 0, HEAD);
-    let n = head[1] as usize;
-    let edition = must(head[0] == 1, Refusal::Edition);
-    let fields = check_head(n, head[2], head[3], head[4]);
-    let size = check_size(sheet, n);
+    let edition = must(head.edition == 1, Refusal::Edition);
+    let fields = check_head(head.count, head.speed, head.crossfall, head.start);
+    let size = check_size(sheet, head.count);
     first(edition, first(fields, size))
 }
 
@@ -79,35 +111,39 @@ fn blank_line() -> Line
     }
 }
 
-// The curve of an entry's fields.
-fn curve_from(entry: [u32; 5]) -> Curve
-    ensures { λ r. ⌜ r ≡ curveFrom entry ⌝ }
+// The curve whose fields begin at bit `at`.
+fn curve_at(sheet: &[u8], at: usize) -> Curve
+    requires { ⌜ (at < 65536) × ((at + 43) / 8 + 4 ≤ length (now sheet)) ⌝ }
+    ensures { λ r. ⌜ r ≡ curveFrom (valuesAt (now (sheet .entry)) at curveWidths) ⌝ }
 {
+    let deflection_at = at + SIDE;
+    let radius_at = deflection_at + DEFLECTION;
+    let spiral_at = radius_at + RADIUS;
+    let left = bits_at(sheet, at, SIDE) == 1;
     Curve {
-        left: entry[1] == 1,
-        deflection: entry[2],
-        radius: entry[3],
-        spiral: entry[4],
+        left,
+        deflection: bits_at(sheet, deflection_at, DEFLECTION),
+        radius: bits_at(sheet, radius_at, RADIUS),
+        spiral: bits_at(sheet, spiral_at, SPIRAL),
     }
 }
 
 // The line of a sheet that passes 1 to 7.
-fn read_line(sheet: &[u8]) -> Line
-    requires { ⌜ frameOutcome firstEdition (now sheet) ≡ passed ⌝ }
+fn read_line(sheet: &[u8], head: Head) -> Line
+    requires { ⌜ (frameOutcome firstEdition (now sheet) ≡ passed) × (head ≡ headOf firstEdition (now sheet)) ⌝ }
     ensures { λ r. ⌜ r ≡ lineOf firstEdition (now (sheet .entry)) ⌝ }
 {
-    let head = fields_at(sheet, 0, HEAD);
-    let n = head[1] as usize;
+    let n = head.count;
     let mut line = blank_line();
+    line.speed = head.speed;
+    line.crossfall = head.crossfall;
+    line.start = head.start;
     line.count = n;
-    line.speed = head[2];
-    line.crossfall = head[3];
-    line.start = head[4];
     let mut i = 0;
     while i < n {
-        let entry = fields_at(sheet, entry_at(i), ENTRY);
-        line.distances[i] = entry[0];
-        line.curves[i] = curve_from(entry);
+        let at = entry_at(i);
+        line.distances[i] = bits_at(sheet, at, DISTANCE);
+        line.curves[i] = curve_at(sheet, at + DISTANCE);
         i += 1;
     }
     line.distances[n] = bits_at(sheet, entry_at(n), DISTANCE);
@@ -120,14 +156,27 @@ pub fn read(sheet: &[u8]) -> ReadAnswer
     ensures answer { λ r. ⌜ outcomeOf (r .verdict) ≡ readOutcome firstEdition (now (sheet .entry)) ⌝ }
     ensures line { λ r. ⌜ r .line ≡ readLine firstEdition (now (sheet .entry)) ⌝ }
 {
-    let frame = check_frame(sheet);
+    if sheet.len() < 7 {
+        return ReadAnswer {
+            verdict: Verdict::Refused(Refusal::Truncated),
+            line: blank_line(),
+        };
+    }
+    let head = read_head(sheet);
+    let frame = check_frame(sheet, head);
     let Verdict::Pass = frame else {
-        return ReadAnswer { verdict: frame, line: blank_line() };
+        return ReadAnswer {
+            verdict: frame,
+            line: blank_line(),
+        };
     };
-    let line = read_line(sheet);
+    let line = read_line(sheet, head);
     let verdict = check_line(line);
     let Verdict::Pass = verdict else {
-        return ReadAnswer { verdict, line: blank_line() };
+        return ReadAnswer {
+            verdict,
+            line: blank_line(),
+        };
     };
     ReadAnswer { verdict, line }
 }

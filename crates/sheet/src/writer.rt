@@ -1,21 +1,31 @@
 // The writer: the sheet of a line at the front of the caller's bytes.
 ghost use mathlib.Core.Path.{_≡_};
-ghost use mathlib.Core.List.{_++_};
-ghost use Prim.Native.Nat.{_<_, _≤_};
+ghost use mathlib.Core.List.{[], _∷_, _++_};
+ghost use Prim.Native.Nat.{_+_, _*_, _≤_};
 ghost use lib.ListN.{length, drop};
 ghost use Rattle.refusals.specs.Outcomes.{passed};
 ghost use Rattle.refusals.specs.Filling.{fillReplyOf};
 ghost use Rattle.line.specs.Checks.{lineOutcome};
-ghost use Rattle.sheet.specs.Layout.{firstEdition, byteCount};
-ghost use Rattle.sheet.specs.Writing.{sideBit, sheetOf, writeAnswer, writeBytes};
+ghost use Rattle.sheet.specs.Bits.{packed, total, Fit};
+ghost use Rattle.sheet.specs.Layout.{firstEdition, headWidths, entryWidths, byteCount};
+ghost use Rattle.sheet.specs.Writing.{sideBit, curveValues, sheetOf, writeAnswer, writeBytes};
+ghost use Rattle.sheet.specs.Pens.{Ready, Put, position};
+use crate::layout::COUNT;
+use crate::layout::CROSSFALL;
+use crate::layout::DEFLECTION;
 use crate::layout::DISTANCE;
-use crate::layout::ENTRY;
-use crate::layout::HEAD;
+use crate::layout::EDITION;
+use crate::layout::RADIUS;
+use crate::layout::SIDE;
+use crate::layout::SPEED;
+use crate::layout::SPIRAL;
+use crate::layout::START;
 use crate::layout::bit_count;
 use crate::layout::byte_count;
 use crate::pen::Pen;
+use crate::pen::flush;
 use crate::pen::put;
-use crate::pen::put_fields;
+use line::Curve;
 use line::Line;
 use line::check_line;
 use refusals::FillAnswer;
@@ -28,6 +38,41 @@ fn side_bit(left: bool) -> u32
     if left { 1 } else { 0 }
 }
 
+// The head.
+fn put_head(bytes: &mut [u8], pen: Pen, count: u32, speed: u32, crossfall: u32, start: u32) -> Pen
+    requires { ⌜ Ready pen × Fit (headWidths firstEdition) (1 ∷ count ∷ speed ∷ crossfall ∷ start ∷ []) ⌝ }
+    requires { ⌜ position pen + total (headWidths firstEdition) ≤ 8 * length (now bytes) ⌝ }
+    ensures { λ r.
+        ⌜
+        Put (now (bytes .entry)) (now (bytes .exit)) pen r (total (headWidths firstEdition))
+        (λ x. packed x (headWidths firstEdition) (1 ∷ count ∷ speed ∷ crossfall ∷ start ∷ []))
+        ⌝ }
+{
+    let p1 = put(&mut *bytes, pen, EDITION, 1);
+    let p2 = put(&mut *bytes, p1, COUNT, count);
+    let p3 = put(&mut *bytes, p2, SPEED, speed);
+    let p4 = put(&mut *bytes, p3, CROSSFALL, crossfall);
+    put(&mut *bytes, p4, START, start)
+}
+
+// A distance, and the curve after it.
+fn put_entry(bytes: &mut [u8], pen: Pen, distance: u32, curve: Curve) -> Pen
+    requires { ⌜ Ready pen × Fit entryWidths (distance ∷ curveValues curve) ⌝ }
+    requires { ⌜ position pen + total entryWidths ≤ 8 * length (now bytes) ⌝ }
+    ensures { λ r.
+        ⌜
+        Put (now (bytes .entry)) (now (bytes .exit)) pen r (total entryWidths)
+        (λ x. packed x entryWidths (distance ∷ curveValues curve))
+        ⌝ }
+{
+    let side = side_bit(curve.left);
+    let p1 = put(&mut *bytes, pen, DISTANCE, distance);
+    let p2 = put(&mut *bytes, p1, SIDE, side);
+    let p3 = put(&mut *bytes, p2, DEFLECTION, curve.deflection);
+    let p4 = put(&mut *bytes, p3, RADIUS, curve.radius);
+    put(&mut *bytes, p4, SPIRAL, curve.spiral)
+}
+
 // The sheet of a line that passes, at the front of bytes that are enough.
 fn write_sheet(line: Line, bytes: &mut [u8])
     requires { ⌜ lineOutcome line ≡ passed ⌝ }
@@ -35,19 +80,30 @@ fn write_sheet(line: Line, bytes: &mut [u8])
     ensures { λ _. ⌜ now (bytes .exit) ≡ sheetOf firstEdition line ++ drop (byteCount firstEdition (line .count)) (now (bytes .entry)) ⌝ }
 {
     let n = line.count;
-    let start = Pen { at: 0, pending: 0, held: 0 };
-    let mut pen = put_fields(&mut *bytes, start, HEAD, [1, n as u32, line.speed, line.crossfall, line.start]);
+    let new = Pen {
+        at: 0,
+        pending: 0,
+        held: 0,
+    };
+    let mut pen = put_head(
+        &mut *bytes,
+        new,
+        n as u32,
+        line.speed,
+        line.crossfall,
+        line.start,
+    );
     let mut i = 0;
     while i < n {
         let distance = line.distances[i];
         let curve = line.curves[i];
-        let entry = [distance, side_bit(curve.left), curve.deflection, curve.radius, curve.spiral];
-        pen = put_fields(&mut *bytes, pen, ENTRY, entry);
+        pen = put_entry(&mut *bytes, pen, distance, curve);
         i += 1;
     }
     let last = line.distances[n];
     pen = put(&mut *bytes, pen, DISTANCE, last);
-    put(&mut *bytes, pen, 8 * byte_count(n) - bit_count(n), 0);
+    pen = put(&mut *bytes, pen, 8 * byte_count(n) - bit_count(n), 0);
+    flush(&mut *bytes, pen);
 }
 
 // The sheet of a line, at the front of `bytes`. Answers its length in bytes, or the first refusal in document 01's order: 3 to

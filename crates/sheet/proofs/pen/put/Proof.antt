@@ -1,119 +1,86 @@
--- `put` meets its contract: the loop keeps the number written, and the bytes from `at` on are as lent.
-use mathlib.Core.Path.{_≡_, refl, sym, _∙_, ap}
-use mathlib.Core.List.{List}
+-- `put` meets its contract: the field waits, or fills a word that is stored.
+use mathlib.Core.Path.{_≡_, refl, _∙_}
 use Prim.Native.Nat.{ℕ, _+_, _-_, _*_, _%_, _^_, _≤_, _<_}
-use native.Mathlib.Nat.{add-mul, mul-assoc, add-assoc, mod-lt}
 use native.Mathlib.Omega.{arith}
-use lib.Arith.{digits-lt}
-use lib.ListN.{length, take, drop, length-set}
-use lib.Pow.{pow-add, pow-mono, pow-pos, shl-exact, shr-lt}
-use lib.Seq.{drop-set-lt}
-use Rattle.sheet.specs.Bits.{valueOf}
-use Rattle.sheet.specs.Pens.{written}
-use Rattle.sheet.proofs.Bytes.{store-step}
+use borrow.Author.Needs.{needs}
+use lib.Pow.{pow-mono, pow-pos, shl-exact, shr-lt}
 use Rattle.sheet.proofs.Fields.{power}
-use Rattle.sheet.proofs.Pens.{further}
+use Rattle.sheet.proofs.Pens.{pending-lt, field-waits, field-stored}
 use Rattle.sheet.proofs.pen.put.Statement.{statement}
 use Rattle.sheet.proofs.pen.put.Tie as tie
 
-abbrev Inv-loop : tie.InvT-loop
-Inv-loop bytes₀ width value pending₀ held₀ at₀ bytes pending held at =
-    (length bytes ≡ length bytes₀)
-    × (8 * at + held ≡ 8 * at₀ + held₀)
-    × (held < 40)
-    × (pending < 2 ^ held)
-    × (valueOf (take at bytes) * 2 ^ held + pending ≡ valueOf (take at₀ bytes₀) * 2 ^ held₀ + pending₀)
-    × (drop at bytes ≡ drop at bytes₀)
-
-abbrev μ-loop : tie.MeasureT-loop
-μ-loop bytes₀ width value pending₀ held₀ at₀ bytes pending held at = held
-
-shl-pending : tie.Need-shl-pending Inv-loop μ-loop
-shl-pending c = omega arith
-
-module _ (c : tie.Start Inv-loop μ-loop) where
+module _ (c : tie.Start) where
   shifted : c .args .pen .pending * 2 ^ c .args .width % 18446744073709551616 ≡ c .args .pen .pending * 2 ^ c .args .width
   shifted = shl-exact (c .args .pen .held) (c .args .width) 64 (c .pre .0 .pending) (omega arith)
 
-  joined : c .args .pen .pending * 2 ^ c .args .width + c .args .value < 2 ^ (c .args .pen .held + c .args .width)
-  joined = rw pow-add (digits-lt (c .pre .0 .pending) (c .pre .1 .1))
+  small : c .args .pen .pending * 2 ^ c .args .width + c .args .value < 2 ^ (c .args .pen .held + c .args .width)
+  small = pending-lt (c .args .bytes .now) (c .args .pen) (c .args .width) (c .args .value) (c .pre .0) (c .pre .1 .1)
 
-add-pending : tie.Need-add-pending Inv-loop μ-loop
+shl-pending : tie.Need-shl-pending
+shl-pending c = search needs
+
+add-pending : tie.Need-add-pending
 add-pending c =
-    let m : 2 ^ (c .before .args .pen .held + c .before .args .width) ≤ 2 ^ 64 = pow-mono {j = 64} (omega arith) in
-    rw (shifted (c .before)) (omega (arith, joined (c .before)))
+    let a = c .before .before .args in
+    let most : 2 ^ (a .pen .held + a .width) ≤ 2 ^ 64 = pow-mono {j = 64} (omega arith) in
+    rw (shifted (c .before .before)) (omega (arith, small (c .before .before)))
 
-add-held : tie.Need-add-held Inv-loop μ-loop
-add-held c = omega arith
+add-held : tie.Need-add-held
+add-held c = search needs
 
-loop-holds : tie.Need-loop-holds Inv-loop μ-loop
-loop-holds c = (refl, refl, omega arith, rw (shifted (c .before .before)) (joined (c .before .before)), refl, refl)
-
-shr-bytes : tie.Need-shr-bytes Inv-loop μ-loop
-shr-bytes c = omega arith
-
-cast-bytes : tie.Need-cast-bytes Inv-loop μ-loop
-cast-bytes c =
-    let e : c .before .loop .held ≡ 8 + (c .before .loop .held - 8) = omega arith in
-    record { fits = shr-lt 8 (c .before .loop .held - 8) (rw e at (c .before .loop .inv .3)) }
-
-slice-write-bytes : tie.Need-slice-write-bytes Inv-loop μ-loop
-slice-write-bytes c = omega arith
-
-shl-pending-2 : tie.Need-shl-pending-2 Inv-loop μ-loop
-shl-pending-2 c = omega arith
-
-rem-pending : tie.Need-rem-pending Inv-loop μ-loop
-rem-pending c = rw (power {w = c .before .loop .held - 8} (omega arith)) (pow-pos (c .before .loop .held - 8))
-
-add-at : tie.Need-add-at Inv-loop μ-loop
-add-at c = omega arith
-
-loop-less : tie.Need-loop-less Inv-loop μ-loop
-loop-less c = omega arith
-
-loop-again : tie.Need-loop-again Inv-loop μ-loop
-loop-again c =
-    let l = c .before .loop in
-    rw (power {w = l .held - 8} (omega arith))
-    (simp length-set (l .inv .0),
-    omega arith,
-    omega arith,
-    mod-lt (l .pending) (pow-pos (l .held - 8)),
-    store-step (l .bytes) (l .at) (l .pending) (l .held) (omega arith) (omega arith) ∙ l .inv .4,
-    drop-set-lt (l .at + 1) (l .bytes) (l .at) _ (omega arith) ∙ further (l .at) (l .at + 1) (l .bytes) _ (omega arith) (l .inv .5))
-
-same-length : tie.Need-same-length Inv-loop μ-loop
-same-length c = c .before .loop .inv .0
-
-returns : tie.Need-returns Inv-loop μ-loop
-unfolding written
+returns : tie.Need-returns
 returns c =
-    let l = c .before .loop in
-    record {
-      ready = record { held = omega arith; pending = l .inv .3 };
-      moved = omega arith;
-      number = l .inv .4 ∙ rw (shifted (c .before .before .before .before), pow-add) (simp (add-mul, mul-assoc, add-assoc));
-      rest = l .inv .5;
-    }
+    let start = c .before .before .before .before in
+    rw (shifted (c .before .before .before .before)) (field-waits (start .args .bytes .now) (start .args .pen) (start .args .width) (start .args .value) (start .pre .0) (start .pre .1 .1) (c .if1 .taken))
+
+shr-store-word : tie.Need-shr-store-word
+shr-store-word c = search needs
+
+cast-store-word : tie.Need-cast-store-word
+cast-store-word c =
+    let start = c .before .before .before .before .before in
+    let left = start .args .pen .held + start .args .width - 32 in
+    let sum : start .args .pen .held + start .args .width ≡ 32 + left = omega arith in
+    rw (shifted (c .before .before .before .before .before)) (record { fits = shr-lt 32 left (rw sum at (small start)) })
+
+store-word-requires : tie.Need-store-word-requires
+store-word-requires c κs = search needs
+
+add-t17 : tie.Need-add-t17
+add-t17 c = search needs
+
+shl-t9 : tie.Need-shl-t9
+shl-t9 c = search needs
+
+rem-t10 : tie.Need-rem-t10
+rem-t10 c =
+    let a = c .before .before .before .before .before .before .before .before .args in
+    rw (power 64 {w = a .pen .held + a .width - 32} (omega arith)) (pow-pos (a .pen .held + a .width - 32))
+
+same-length : tie.Need-same-length
+same-length c = search needs
+
+returns-2 : tie.Need-returns-2
+returns-2 c =
+    let start = c .before .before .before .before .before .before .before .before in
+    let a = start .args in
+    rw (shifted (c .before .before .before .before .before .before .before .before), power 64 {w = a .pen .held + a .width - 32} (omega arith))
+    (field-stored (a .bytes .now) (a .pen) (a .width) (a .value) (start .pre .0) (start .pre .1 .1) _ (omega arith) (omega arith) (omega arith)
+    (rw (shifted (c .before .before .before .before .before .before .before .before)) at (c .before .before .store-word .ensures)))
 
 pub put-spec : {M : Type 1} → statement M
 put-spec =
     tie.close
     (tie.spec
-    Inv-loop
-    μ-loop
     shl-pending
     add-pending
     add-held
-    loop-holds
-    shr-bytes
-    cast-bytes
-    slice-write-bytes
-    shl-pending-2
-    rem-pending
-    add-at
-    loop-less
-    loop-again
+    returns
+    shr-store-word
+    cast-store-word
+    store-word-requires
+    add-t17
+    shl-t9
+    rem-t10
     same-length
-    returns)
+    returns-2)

@@ -1,16 +1,11 @@
 -- `check_size` meets its contract.
+use mathlib.Core.Path.{_∙_, ap}
 use native.Mathlib.Omega.{arith}
 use borrow.Author.Needs.{needs}
 use Rattle.sheet.specs.Layout.{firstEdition}
 use Rattle.sheet.proofs.Frames.{too-short, too-long, whole}
 use Rattle.sheet.proofs.reader.check_size.Statement.{statement}
 use Rattle.sheet.proofs.reader.check_size.Tie as tie
-use Rattle.sheet.proofs.reader.check_size.Reads as reads
-use Rattle.sheet.proofs.reader.check_size.Lts as lts
-use Rattle.refusals.proofs.must.Reads as must-reads
-use Rattle.sheet.proofs.bits.bits_at.Reads as bits-at-reads
-use Rattle.sheet.proofs.layout.bit_count.Reads as bit-count-reads
-use Rattle.sheet.proofs.layout.byte_count.Reads as byte-count-reads
 
 bit-count-requires : tie.Need-bit-count-requires
 bit-count-requires c κs = search needs
@@ -24,20 +19,20 @@ returns c = too-short firstEdition _ _ (omega (arith, c .if1 .taken))
 returns-2 : tie.Need-returns-2
 returns-2 c = too-long firstEdition _ _ (omega (arith, c .if2 .taken))
 
-mul-bits-at : tie.Need-mul-bits-at
-mul-bits-at c = search needs
+mul-last-bits : tie.Need-mul-last-bits
+mul-last-bits c = search needs
 
-sub-bits-at : tie.Need-sub-bits-at
-sub-bits-at c = search needs
+sub-last-bits : tie.Need-sub-last-bits
+sub-last-bits c = search needs
 
-bits-at-requires : tie.Need-bits-at-requires
-bits-at-requires c κs = search needs
+last-bits-requires : tie.Need-last-bits-requires
+last-bits-requires c κs = search needs
 
 must-requires : tie.Need-must-requires
 must-requires c κs = search needs
 
 returns-3 : tie.Need-returns-3
-returns-3 c = whole firstEdition _ _ (omega arith) (omega arith) (omega arith) (c .before .bits-at .ensures) (c .must .ensures)
+returns-3 c = whole firstEdition _ _ (omega arith) (omega arith) (omega arith) (c .before .last-bits .ensures) (c .must .ensures)
 
 pub check-size-spec : {M : Type 1} → statement M
 check-size-spec =
@@ -47,8 +42,8 @@ check-size-spec =
     byte-count-requires
     returns
     returns-2
-    mul-bits-at
-    sub-bits-at
-    bits-at-requires
+    mul-last-bits
+    sub-last-bits
+    last-bits-requires
     must-requires
     returns-3)

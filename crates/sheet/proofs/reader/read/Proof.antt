@@ -1,11 +1,25 @@
 -- `read` meets its contract.
-use mathlib.Core.Path.{sym, _∙_, ap}
+use mathlib.Core.Path.{refl, sym, _∙_, ap}
 use borrow.Author.Needs.{needs}
+use Rattle.refusals.specs.declared.Verdict.the-variants.{Refused}
+use Rattle.refusals.specs.declared.Refusal.the-variants.{Truncated}
 use Rattle.refusals.specs.Outcomes.{outcomeOf}
 use Rattle.sheet.specs.Layout.{firstEdition}
+use Rattle.sheet.proofs.Frames.{no-head}
 use Rattle.sheet.proofs.WaysOut.{line-beside, frame-refused, line-checked}
 use Rattle.sheet.proofs.reader.read.Statement.{statement}
 use Rattle.sheet.proofs.reader.read.Tie as tie
+
+blank-line-requires : tie.Need-blank-line-requires
+blank-line-requires c κs = search needs
+
+returns : tie.Need-returns
+returns c =
+    let answer = frame-refused firstEdition _ (Refused Truncated) (no-head firstEdition _ (c .before .if1 .taken)) refl in
+    (answer, line-beside firstEdition _ (Refused Truncated) answer refl (c .blank-line .ensures))
+
+read-head-requires : tie.Need-read-head-requires
+read-head-requires c κs = search needs
 
 check-frame-requires : tie.Need-check-frame-requires
 check-frame-requires c κs = search needs
@@ -16,17 +30,17 @@ enum-told c = search needs
 enum-told-2 : tie.Need-enum-told-2
 enum-told-2 c = search needs
 
-blank-line-requires : tie.Need-blank-line-requires
-blank-line-requires c κs = search needs
+blank-line-requires-2 : tie.Need-blank-line-requires-2
+blank-line-requires-2 c κs = search needs
 
-returns : tie.Need-returns
-returns c =
+returns-2 : tie.Need-returns-2
+returns-2 c =
     let told = c .before .enum-told2 .given .1 in
     let answer = frame-refused firstEdition _ _ (c .before .before .before .check-frame .ensures) told in
-    (answer, line-beside firstEdition _ _ answer told (c .blank-line .ensures))
+    (answer, line-beside firstEdition _ _ answer told (c .blank-line2 .ensures))
 
 read-line-requires : tie.Need-read-line-requires
-read-line-requires c κs = sym (c .before .before .check-frame .ensures) ∙ ap outcomeOf (c .enum-told .given .1)
+read-line-requires c κs = (sym (c .before .before .check-frame .ensures) ∙ ap outcomeOf (c .enum-told .given .1), c .before .before .before .read-head .ensures)
 
 check-line-requires : tie.Need-check-line-requires
 check-line-requires c κs = search needs
@@ -37,39 +51,39 @@ enum-told-3 c = search needs
 enum-told-4 : tie.Need-enum-told-4
 enum-told-4 c = search needs
 
-blank-line-requires-2 : tie.Need-blank-line-requires-2
-blank-line-requires-2 c κs = search needs
-
-returns-2 : tie.Need-returns-2
-returns-2 c =
-    let told = c .before .enum-told4 .given .1 in
-    let answer =
-    line-checked firstEdition _ _ (c .before .before .before .before .before .before .before .check-frame .ensures) (c .before .before .before .before .before .enum-told .given .1)
-    (c .before .before .before .before .read-line .ensures) (c .before .before .before .check-line .ensures) in
-    (answer, line-beside firstEdition _ _ answer told (c .blank-line2 .ensures))
+blank-line-requires-3 : tie.Need-blank-line-requires-3
+blank-line-requires-3 c κs = search needs
 
 returns-3 : tie.Need-returns-3
 returns-3 c =
+    let told = c .before .enum-told4 .given .1 in
+    let answer =
+    line-checked firstEdition _ _ (c .before .before .before .before .before .before .before .check-frame .ensures) (c .before .before .before .before .before .enum-told .given .1) (c .before .before .before .before .read-line .ensures) (c .before .before .before .check-line .ensures) in
+    (answer, line-beside firstEdition _ _ answer told (c .blank-line3 .ensures))
+
+returns-4 : tie.Need-returns-4
+returns-4 c =
     let told = c .enum-told3 .given .1 in
     let line = c .before .before .before .read-line .ensures in
-    let answer =
-    line-checked firstEdition _ _ (c .before .before .before .before .before .before .check-frame .ensures) (c .before .before .before .before .enum-told .given .1)
-    line (c .before .before .check-line .ensures) in
+    let answer = line-checked firstEdition _ _ (c .before .before .before .before .before .before .check-frame .ensures) (c .before .before .before .before .enum-told .given .1) line (c .before .before .check-line .ensures) in
     (answer, line-beside firstEdition _ _ answer told line)
 
 pub read-spec : {M : Type 1} → statement M
 read-spec =
     tie.close
     (tie.spec
+    blank-line-requires
+    returns
+    read-head-requires
     check-frame-requires
     enum-told
     enum-told-2
-    blank-line-requires
-    returns
+    blank-line-requires-2
+    returns-2
     read-line-requires
     check-line-requires
     enum-told-3
     enum-told-4
-    blank-line-requires-2
-    returns-2
-    returns-3)
+    blank-line-requires-3
+    returns-3
+    returns-4)

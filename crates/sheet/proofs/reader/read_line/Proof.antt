@@ -1,12 +1,13 @@
 -- `read_line` meets its contract: after i turns the first i distances and curves are filled in.
-use mathlib.Core.Path.{_≡_, refl, sym, _∙_, ap}
+use mathlib.Core.Path.{_≡_, _∙_, ap}
 use Prim.Native.Nat.{ℕ, _-_, _*_, _≤_}
 use native.Mathlib.Omega.{arith}
 use borrow.Author.Needs.{needs}
-use lib.ListN.{length, getD}
+use lib.ListN.{length}
+use Rattle.sheet.specs.declared.reader.Head.{Head}
 use Rattle.sheet.specs.Layout.{firstEdition, bitCount}
 use Rattle.sheet.specs.Reading.{countOf, lineTo}
-use Rattle.sheet.proofs.Frames.{framed, count-read}
+use Rattle.sheet.proofs.Frames.{framed}
 use Rattle.sheet.proofs.LineSteps.{line-begun, entry-read, last-read}
 use Rattle.sheet.proofs.reader.read_line.Statement.{statement}
 use Rattle.sheet.proofs.reader.read_line.Tie as tie
@@ -22,41 +23,21 @@ Inv-loop sheet n line₀ i₀ line i =
 abbrev μ-loop : tie.MeasureT-loop
 μ-loop sheet n line₀ i₀ line i = n - i
 
-fields-at-requires : tie.Need-fields-at-requires Inv-loop μ-loop
-fields-at-requires c κs = let f = framed firstEdition _ (c .before .pre) in ((refl, search needs), (omega arith, omega (arith, f .size)))
-
-array-read-n : tie.Need-array-read-n Inv-loop μ-loop
-array-read-n c = search needs
-
-cast-n : tie.Need-cast-n Inv-loop μ-loop
-cast-n c = search needs
-
 blank-line-requires : tie.Need-blank-line-requires Inv-loop μ-loop
 blank-line-requires c κs = search needs
 
-array-read-line : tie.Need-array-read-line Inv-loop μ-loop
-array-read-line c = search needs
-
-array-read-line-2 : tie.Need-array-read-line-2 Inv-loop μ-loop
-array-read-line-2 c = search needs
-
-array-read-line-3 : tie.Need-array-read-line-3 Inv-loop μ-loop
-array-read-line-3 c = search needs
-
 loop-holds : tie.Need-loop-holds Inv-loop μ-loop
 loop-holds c =
-    let f = framed firstEdition _ (c .before .before .before .pre) in
-    let n = count-read firstEdition _ (c .before .fields-at .ensures) in
-    (omega arith, omega (arith, n, f .few), omega (arith, n, f .size), n, line-begun firstEdition _ (c .before .fields-at .ensures) (c .blank-line .ensures))
+    let start = c .before .before in
+    let f = framed firstEdition _ (start .pre .0) in
+    let n = ap (λ (h : Head). h .count) (start .pre .1) in
+    (omega arith, omega (arith, n, f .few), omega (arith, n, f .size), n, line-begun firstEdition _ (start .pre .1) (c .blank-line .ensures))
 
 entry-at-requires : tie.Need-entry-at-requires Inv-loop μ-loop
 entry-at-requires c κs = search needs
 
-fields-at-requires-2 : tie.Need-fields-at-requires-2 Inv-loop μ-loop
-fields-at-requires-2 c κs = search needs
-
-array-read-line-4 : tie.Need-array-read-line-4 Inv-loop μ-loop
-array-read-line-4 c = search needs
+bits-at-requires : tie.Need-bits-at-requires Inv-loop μ-loop
+bits-at-requires c κs = search needs
 
 mul-line : tie.Need-mul-line Inv-loop μ-loop
 mul-line c = search needs
@@ -64,11 +45,14 @@ mul-line c = search needs
 element-write-line : tie.Need-element-write-line Inv-loop μ-loop
 element-write-line c = search needs
 
-curve-from-requires : tie.Need-curve-from-requires Inv-loop μ-loop
-curve-from-requires c κs = search needs
+add-curve-at : tie.Need-add-curve-at Inv-loop μ-loop
+add-curve-at c = search needs
 
-mul-t21 : tie.Need-mul-t21 Inv-loop μ-loop
-mul-t21 c = search needs
+curve-at-requires : tie.Need-curve-at-requires Inv-loop μ-loop
+curve-at-requires c κs = search needs
+
+mul-t14 : tie.Need-mul-t14 Inv-loop μ-loop
+mul-t14 c = search needs
 
 element-set-from-line : tie.Need-element-set-from-line Inv-loop μ-loop
 element-set-from-line c = search needs
@@ -81,15 +65,19 @@ loop-less c = search needs
 
 loop-again : tie.Need-loop-again Inv-loop μ-loop
 loop-again c =
-    let inv = c .before .before .before .before .loop .inv in
-    (omega arith, inv .1, inv .2, inv .3,
-    entry-read firstEdition _ _ (omega arith) (inv .4) (c .before .before .entry-at .ensures) (c .before .fields-at2 .ensures) (c .curve-from .ensures))
+    let inv = c .before .before .before .before .loop .inv in (
+      omega arith,
+      inv .1,
+      inv .2,
+      inv .3,
+      entry-read firstEdition _ _ (omega arith) (inv .4) (c .before .before .entry-at .ensures) (c .before .bits-at .ensures) (c .curve-at .ensures),
+    )
 
 entry-at-requires-2 : tie.Need-entry-at-requires-2 Inv-loop μ-loop
 entry-at-requires-2 c κs = search needs
 
-bits-at-requires : tie.Need-bits-at-requires Inv-loop μ-loop
-bits-at-requires c κs = search needs
+bits-at-requires-2 : tie.Need-bits-at-requires-2 Inv-loop μ-loop
+bits-at-requires-2 c κs = search needs
 
 mul-line-2 : tie.Need-mul-line-2 Inv-loop μ-loop
 mul-line-2 c = search needs
@@ -99,11 +87,12 @@ element-write-line-2 c = search needs
 
 returns : tie.Need-returns Inv-loop μ-loop
 returns c =
+    let start = c .before .before .before .before .before .before in
+    let s = start .args .sheet .now in
     let loop = c .before .before .before .loop in
-    let inv = loop .inv in
-    let s = c .before .before .before .before .before .before .before .args .sheet .now in
-    let done : loop .i ≡ getD (c .before .before .before .before .before .fields-at .result) 1 0 = omega arith in
-    last-read firstEdition s _ (omega arith) (inv .3) (inv .4 ∙ ap (λ (k : ℕ). lineTo firstEdition s k k) done) (c .before .entry-at2 .ensures) (c .bits-at .ensures)
+    let done : loop .i ≡ start .args .head .count = omega arith in
+    last-read firstEdition s _ (omega arith) (loop .inv .3) (loop .inv .4 ∙ ap (λ (k : ℕ). lineTo firstEdition s k k) done)
+    (c .before .entry-at2 .ensures) (c .bits-at2 .ensures)
 
 pub read-line-spec : {M : Type 1} → statement M
 read-line-spec =
@@ -111,27 +100,21 @@ read-line-spec =
     (tie.spec
     Inv-loop
     μ-loop
-    fields-at-requires
-    array-read-n
-    cast-n
     blank-line-requires
-    array-read-line
-    array-read-line-2
-    array-read-line-3
     loop-holds
     entry-at-requires
-    fields-at-requires-2
-    array-read-line-4
+    bits-at-requires
     mul-line
     element-write-line
-    curve-from-requires
-    mul-t21
+    add-curve-at
+    curve-at-requires
+    mul-t14
     element-set-from-line
     add-i
     loop-less
     loop-again
     entry-at-requires-2
-    bits-at-requires
+    bits-at-requires-2
     mul-line-2
     element-write-line-2
     returns)
