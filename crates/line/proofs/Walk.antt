@@ -1,14 +1,28 @@
 -- The checks of the distances and curves, one entry after the other. Assumes nothing.
-use mathlib.Core.Path.{_≡_, _∙_}
-use Prim.Native.Nat.{ℕ, _+_}
+use mathlib.Core.Path.{_≡_, refl, sym, _∙_, ap}
+use Prim.Native.Nat.{ℕ, zero, suc, _+_, _-_, _≤_}
+use native.Mathlib.Nat.{add-zero, add-suc}
 use native.Mathlib.Numerals.{add-one}
-use Rattle.refusals.specs.Outcomes.{Outcome, _▹_}
+use native.Mathlib.Omega.{arith}
+use Rattle.refusals.specs.Outcomes.{Outcome, passed, refused, _▹_}
+use Rattle.refusals.proofs.Joining.{join}
 use Rattle.line.specs.declared.Line.{Line}
 use Rattle.line.specs.Checks.{distanceOutcome, curveOutcome, distanceAt, curveAt, bodyOutcome}
 
--- One curve and one distance more, at the code's `i + 1`.
-pub body-step : (l : Line) (i : ℕ) (v e r : Outcome) → v ≡ bodyOutcome l i
+-- One curve and one distance more behind entries that pass, at the code's `i + 1`.
+pub body-step : (l : Line) (i : ℕ) {e : Outcome} → bodyOutcome l i ≡ passed
     → e ≡ (curveOutcome (curveAt l i .deflection) (curveAt l i .radius) (curveAt l i .spiral) (i + 1) ▹ distanceOutcome (distanceAt l (i + 1)) (i + 1))
-    → r ≡ (v ▹ e) → r ≡ bodyOutcome l (i + 1)
+    → e ≡ bodyOutcome l (i + 1)
 unfolding bodyOutcome
-body-step l i v e r p q s = s ∙ (λ j. p j ▹ q j) ∙ simp add-one
+body-step l i p q = q ∙ rw (add-one i, p)
+
+-- A refusal stays, whatever comes after it.
+stays : (l : Line) (i j : ℕ) {n p : ℕ} → bodyOutcome l i ≡ refused n p → bodyOutcome l (i + j) ≡ refused n p
+unfolding bodyOutcome
+stays l i zero e = ap (bodyOutcome l) (add-zero i) ∙ e
+stays l i (suc j) e = ap (bodyOutcome l) (add-suc i j) ∙ join (stays l i j e) refl
+
+pub body-refused : (l : Line) (i k : ℕ) {o : Outcome} {n p : ℕ} → i ≤ k → o ≡ bodyOutcome l i → o ≡ refused n p → o ≡ bodyOutcome l k
+body-refused l i k h e r =
+    let all : i + (k - i) ≡ k = omega arith in
+    r ∙ sym (stays l i (k - i) (sym e ∙ r)) ∙ ap (bodyOutcome l) all

@@ -83,16 +83,21 @@ fn check_body(line: Line) -> Verdict
 {
     let n = line.count;
     let d0 = line.distances[0];
-    let mut verdict = check_distance(d0, 0);
+    let start = check_distance(d0, 0);
+    let Verdict::Pass = start else {
+        return start;
+    };
     let mut i = 0;
     while i < n {
         let curve = line.curves[i];
         let distance = line.distances[i + 1];
         let entry = check_entry(curve, distance, (i + 1) as u16);
-        verdict = first(verdict, entry);
+        let Verdict::Pass = entry else {
+            return entry;
+        };
         i += 1;
     }
-    verdict
+    Verdict::Pass
 }
 
 // The first refusal of a line's fields: 3 to 6, then 8 to 11 in sheet order. Unused entries are ignored.
