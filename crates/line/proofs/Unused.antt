@@ -1,10 +1,13 @@
 -- The checks read no unused entry and no side: lines that are alike where they are used have the same first refusal. Assumes nothing.
-use mathlib.Core.Path.{_≡_}
-use Prim.Native.Nat.{ℕ, zero, suc, _≤_}
+use mathlib.Core.Path.{_≡_, refl, ap}
+use Prim.Native.Nat.{ℕ, zero, suc, _≤_, _<_}
 use native.Mathlib.Omega.{arith}
+use Rattle.line.specs.declared.Curve.{Curve}
 use Rattle.line.specs.declared.Line.{Line}
-use Rattle.line.specs.Checks.{bodyOutcome, lineOutcome}
+use Rattle.line.specs.Checks.{distanceAt, blankCurve, curveAt, bodyOutcome, lineOutcome}
+use Rattle.line.specs.Entries.{cleared}
 use Rattle.line.specs.Ranges.{AlikeWhereUsed}
+use Rattle.line.proofs.Entries.{entries-get}
 
 module _ (l m : Line) (alike : AlikeWhereUsed l m) where
   same-body : (i : ℕ) → i ≤ l .count → bodyOutcome l i ≡ bodyOutcome m i
@@ -23,3 +26,21 @@ module _ (l m : Line) (alike : AlikeWhereUsed l m) where
   unfolding lineOutcome
   unused-ignored =
       rw (same-body (l .count) (omega arith), alike .count, alike .speed, alike .crossfall, alike .start)
+
+-- A line and the same with its unused entries zero.
+pub cleared-alike : (line : Line) → line .count ≤ 64 → AlikeWhereUsed (cleared line) line
+unfolding cleared
+cleared-alike line few =
+    record {
+      speed = refl;
+      crossfall = refl;
+      start = refl;
+      count = refl;
+      distance = λ i h. entries-get 65 (suc (line .count)) i (distanceAt line) 0 0 (omega arith) (omega (arith, few));
+      deflection = λ i h. ap (λ (c : Curve). c .deflection) (same-curve i h);
+      radius = λ i h. ap (λ (c : Curve). c .radius) (same-curve i h);
+      spiral = λ i h. ap (λ (c : Curve). c .spiral) (same-curve i h);
+    }
+  where
+    same-curve : (i : ℕ) → i < line .count → curveAt (cleared line) i ≡ curveAt line i
+    same-curve i h = entries-get 64 (line .count) i (curveAt line) blankCurve blankCurve h few

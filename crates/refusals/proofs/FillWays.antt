@@ -9,7 +9,7 @@ use Rattle.refusals.specs.declared.Refusal.{Refusal}
 use Rattle.refusals.specs.declared.Verdict.{Verdict}
 use Rattle.refusals.specs.declared.Verdict.the-variants.{Refused}
 use Rattle.refusals.specs.Table.{numberOf, placeOf}
-use Rattle.refusals.specs.Outcomes.{Outcome, passed, refused, outcomeOf, need, _▹_}
+use Rattle.refusals.specs.Outcomes.{Outcome, passed, outcomeOf, need, _▹_}
 use Rattle.refusals.specs.Filling.{filled, unfilled, countAfter, bufferAfter}
 use Rattle.refusals.proofs.Joining.{refused-first}
 

@@ -1,14 +1,14 @@
 -- Fields after one another, over any list of widths: what is read is packed again, and what is packed is read again. Assumes nothing.
 use mathlib.Core.Path.{_≡_, refl, sym, _∙_, ap}
 use mathlib.Core.List.{List, [], _∷_}
-use Prim.Native.Nat.{ℕ, zero, suc, _+_, _-_, _*_, _/_, _%_, _^_, _≤_, _<_}
-use native.Mathlib.Nat.{add-zero, add-assoc, mul-assoc, one-mul, div-one, mod-lt, mul-add-div-right, mul-add-mod-self-right}
+use Prim.Native.Nat.{ℕ, _+_, _-_, _*_, _/_, _%_, _^_, _≤_, _<_}
+use native.Mathlib.Nat.{add-zero, add-assoc, mul-assoc, one-mul, div-one, div-eq-of-lt, sub-self, sub-zero, mod-lt, mul-add-div-right, mul-add-mod-self-right}
 use native.Mathlib.Omega.{arith}
 use lib.Arith.{digits-lt, digits-div, digits-mod}
 use lib.ListN.{length, take, getD}
 use lib.Pow.{pow-add, pow-pos, shr-shr, shl-exact, split, mod-pow-add}
 use Rattle.sheet.specs.Bits.{Bytes, valueOf, bitsAt, valuesAt, packed, total, Fit}
-use Rattle.sheet.proofs.Bytes.{value-step, value-take}
+use Rattle.sheet.proofs.Bytes.{value-step, value-lt, value-take}
 
 -- The number in the first b bits.
 abbrev pub upTo : List ℕ → ℕ → ℕ
@@ -17,6 +17,14 @@ upTo s b = valueOf s / 2 ^ (8 * length s - b)
 pub bits-lt : (s : List ℕ) (from width : ℕ) → bitsAt s from width < 2 ^ width
 unfolding bitsAt
 bits-lt s from width = mod-lt _ (pow-pos width)
+
+-- All bits of a list of bytes are its number, and no bits are none.
+pub all-bits : (s : List ℕ) {b : ℕ} → b ≡ 8 * length s → upTo s b ≡ valueOf s
+all-bits s e =
+    ap (upTo s) e ∙ ap (λ (n : ℕ). valueOf s / 2 ^ n) (sub-self (8 * length s)) ∙ div-one (valueOf s)
+
+pub no-bits : (s : List ℕ) → Bytes s → upTo s 0 ≡ 0
+no-bits s bytes = div-eq-of-lt (rw sub-zero (value-lt s bytes))
 
 module _ (s : List ℕ) where
   fewer : (b w : ℕ) → b + w ≤ 8 * length s → upTo s b ≡ upTo s (b + w) / 2 ^ w

@@ -1,6 +1,6 @@
 -- The reader's checks 1 to 7: what they say in each case, and what a sheet is that passes them. Assumes nothing.
-use mathlib.Core.Path.{_≡_, refl, sym, _∙_, ap}
-use mathlib.Core.Bool.{Bool, _&&_}
+use mathlib.Core.Path.{_≡_, _∙_, ap}
+use mathlib.Core.Bool.{_&&_}
 use mathlib.Core.List.{List}
 use Prim.Native.Nat.{ℕ, _≤_, _<_}
 use native.Mathlib.Omega.{arith}
@@ -9,7 +9,7 @@ use lib.ListN.{length}
 use borrow.Author.Tests.{le-leb, lt-leb, leb-true, eqb-true}
 use Rattle.numbers.proofs.Tests.{both-left, both-right}
 use Rattle.refusals.specs.Outcomes.{Outcome, passed, refused, need, _▹_}
-use Rattle.refusals.proofs.Joining.{passed-left, passed-right, need-holds, join, tested}
+use Rattle.refusals.proofs.Joining.{passed-left, passed-right, need-holds, join}
 use Rattle.line.specs.Checks.{headOutcome}
 use Rattle.line.proofs.InRange.{few-curves}
 use Rattle.sheet.specs.declared.reader.Head.{Head}

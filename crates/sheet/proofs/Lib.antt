@@ -1,4 +1,4 @@
--- Laws of sheets.
+-- Laws of sheets, and the theorem that reader and writer undo each other (`RoundTrip`).
 pub mod Bytes
 pub mod Fields
 pub mod Pens
@@ -7,3 +7,6 @@ pub mod Frames
 pub mod LineSteps
 pub mod SheetSteps
 pub mod WaysOut
+pub mod WrittenAgain
+pub mod ReadAgain
+pub mod RoundTrip

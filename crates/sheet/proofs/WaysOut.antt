@@ -1,22 +1,18 @@
 -- What the reader answers, for each way out; the length of the writer's sheet. Assumes nothing.
-use mathlib.Core.Path.{_≡_, refl, sym, _∙_, ap}
-use mathlib.Core.List.{List, _++_}
-use Prim.Native.Nat.{ℕ, _≤_, _<_}
-use lib.ListN.{length, drop}
-use borrow.Author.Tests.{le-leb, lt-leb}
+use mathlib.Core.Path.{_≡_, sym, _∙_, ap}
+use mathlib.Core.List.{List}
+use Prim.Native.Nat.{ℕ}
+use lib.ListN.{length}
 use Rattle.refusals.specs.declared.Refusal.{Refusal}
 use Rattle.refusals.specs.declared.Verdict.{Verdict}
 use Rattle.refusals.specs.declared.Verdict.the-variants.{Pass, Refused}
-use Rattle.refusals.specs.Table.{numberOf, placeOf}
-use Rattle.refusals.specs.Outcomes.{Outcome, passed, refused, outcomeOf, need, _▹_}
-use Rattle.refusals.specs.Filling.{filled, unfilled, countAfter, bufferAfter}
-use Rattle.refusals.proofs.Joining.{refused-first, passed-first}
+use Rattle.refusals.specs.Outcomes.{Outcome, passed, outcomeOf}
+use Rattle.refusals.proofs.Joining.{refused-first}
 use Rattle.line.specs.declared.Line.{Line}
-use Rattle.line.specs.Checks.{headOutcome, bodyOutcome, lineOutcome}
-use Rattle.line.specs.Entries.{blankLine}
+use Rattle.line.specs.Checks.{lineOutcome}
 use Rattle.sheet.specs.Layout.{Edition, byteCount}
-use Rattle.sheet.specs.Reading.{countOf, lineTo, lineOf, frameOutcome, readOutcome, lineAfter, readLine}
-use Rattle.sheet.specs.Writing.{sheetNumber, sheetOf, writeOutcome, writeAnswer, writeBytes}
+use Rattle.sheet.specs.Reading.{lineTo, lineOf, frameOutcome, readOutcome, lineAfter, readLine}
+use Rattle.sheet.specs.Writing.{sheetNumber, sheetOf}
 use Rattle.sheet.proofs.Bytes.{length-bytes}
 use Rattle.sheet.proofs.Frames.{framed}
 

@@ -1,5 +1,4 @@
 -- `check_size` meets its contract.
-use mathlib.Core.Path.{_∙_, ap}
 use native.Mathlib.Omega.{arith}
 use borrow.Author.Needs.{needs}
 use Rattle.sheet.specs.Layout.{firstEdition}

@@ -1,7 +1,6 @@
 -- `curve_at` meets its contract.
 use borrow.Author.Needs.{needs}
 use lib.Dec.{eqb}
-use Rattle.line.specs.declared.Curve.{Curve}
 use Rattle.sheet.specs.Bits.{valuesAt}
 use Rattle.sheet.proofs.reader.curve_at.Statement.{statement}
 use Rattle.sheet.proofs.reader.curve_at.Tie as tie

@@ -1,6 +1,5 @@
 -- `read_head` meets its contract.
 use borrow.Author.Needs.{needs}
-use Rattle.sheet.specs.declared.reader.Head.{Head}
 use Rattle.sheet.specs.Bits.{valuesAt}
 use Rattle.sheet.specs.Reading.{headOf}
 use Rattle.sheet.proofs.reader.read_head.Statement.{statement}

@@ -1,12 +1,8 @@
 -- `put_head` meets its contract.
-use mathlib.Core.Path.{refl, ap}
-use mathlib.Core.List.{[], _∷_}
-use Prim.Native.Nat.{ℕ}
 use native.Mathlib.Omega.{arith}
 use borrow.Author.Needs.{needs}
 use Rattle.sheet.specs.Bits.{packed}
-use Rattle.sheet.specs.Layout.{entryWidths}
-use Rattle.sheet.proofs.Pens.{put-put, put-as}
+use Rattle.sheet.proofs.Pens.{put-put}
 use Rattle.sheet.proofs.writer.put_head.Statement.{statement}
 use Rattle.sheet.proofs.writer.put_head.Tie as tie
 
