@@ -10,3 +10,4 @@ pub mod WaysOut
 pub mod WrittenAgain
 pub mod ReadAgain
 pub mod RoundTrip
+pub mod Examples

@@ -1,64 +1,27 @@
 // Prints the stations of each line that standard input lists. The gate runs it on the reference's samples.
 //
-// A line of text is one line, as decimal numbers (`decimal_text`): ROOM N V E START D0, then SIDE A R L D for each curve and
-// the distance after it. ROOM is the length of the row that is lent, 300 at the most; its entries hold 1, 2, 3, .. before the
-// call. Each line gives two: the count of stations, or REFUSED, number, place; then the row after the call.
-ghost use Prim.Native.Nat.{_≤_};
+// A line of text is decimal numbers (`decimal_text`): ROOM, then those of one line (`line_text`). ROOM is the length of the row
+// that is lent, 300 at the most; its entries hold 1, 2, 3, .. before the call. Each line of text gives two: the count of
+// stations, or REFUSED, number, place; then the row after the call.
+ghost use Prim.Native.Nat.{_<_, _≤_};
 ghost use lib.ListN.{length};
 use decimal_text::Reading;
 use decimal_text::new_line;
 use decimal_text::read_byte;
 use libc::STDIN_FILENO;
 use libc::STDOUT_FILENO;
-use line::Curve;
 use line::Line;
+use line_text::line_of;
 use refusals::FillAnswer;
 use refusals::Refusal;
 
-// The numbers of a line of text: five, distance 0, and five for each curve.
+// The numbers of a line of text: the room, and 325 for the line.
 const NUMBERS: usize = 326;
 
 // What one read of the input came to.
 struct Chunk {
     reading: Reading,
     ended: bool,
-}
-
-fn wide(number: u32) -> usize {
-    number as usize
-}
-
-// The line that the numbers spell.
-fn line_of(numbers: &[u32]) -> Line
-    requires { ⌜ 326 ≤ length (now numbers) ⌝ }
-{
-    let mut line = Line {
-        speed: numbers[2],
-        crossfall: numbers[3],
-        start: numbers[4],
-        count: wide(numbers[1]),
-        distances: [0; 65],
-        curves: [Curve {
-            left: false,
-            deflection: 0,
-            radius: 0,
-            spiral: 0,
-        }; 64],
-    };
-    line.distances[0] = numbers[5];
-    let mut i = 0;
-    while i < 64 {
-        let at = 6 + 5 * i;
-        line.curves[i] = Curve {
-            left: numbers[at] == 1,
-            deflection: numbers[at + 1],
-            radius: numbers[at + 2],
-            spiral: numbers[at + 3],
-        };
-        line.distances[i + 1] = numbers[at + 4];
-        i += 1;
-    }
-    line
 }
 
 fn print_number(number: u64, after: &[u8]) {
@@ -115,9 +78,9 @@ fn print_call(line: Line, row: &mut [u64]) {
 }
 
 fn print_stations(numbers: &[u32])
-    requires { ⌜ 326 ≤ length (now numbers) ⌝ }
+    requires { ⌜ 0 < length (now numbers) ⌝ }
 {
-    let line = line_of(numbers);
+    let line = line_of(&numbers[1..]);
     let room = room_of(numbers[0]);
     let mut row: [u64; 300] = [0; 300];
     print_call(line, &mut row[..room]);
@@ -125,7 +88,7 @@ fn print_stations(numbers: &[u32])
 
 // The line of text after one byte more; a newline prints it and begins the next.
 fn take_byte(reading: Reading, byte: u8, numbers: &mut [u32]) -> Reading
-    requires { ⌜ 326 ≤ length (now numbers) ⌝ }
+    requires { ⌜ 0 < length (now numbers) ⌝ }
 {
     if byte == b'\n' {
         print_stations(&*numbers);
@@ -135,7 +98,7 @@ fn take_byte(reading: Reading, byte: u8, numbers: &mut [u32]) -> Reading
 }
 
 fn take_bytes(before: Reading, bytes: &[u8], numbers: &mut [u32]) -> Reading
-    requires { ⌜ 326 ≤ length (now numbers) ⌝ }
+    requires { ⌜ 0 < length (now numbers) ⌝ }
 {
     let mut reading = before;
     let mut i = 0;
@@ -147,7 +110,7 @@ fn take_bytes(before: Reading, bytes: &[u8], numbers: &mut [u32]) -> Reading
 }
 
 fn take_chunk(before: Reading, numbers: &mut [u32]) -> Chunk
-    requires { ⌜ 326 ≤ length (now numbers) ⌝ }
+    requires { ⌜ 0 < length (now numbers) ⌝ }
 {
     let mut buffer = io::large_buffer();
     let n = io::read_full(STDIN_FILENO, &mut buffer);
@@ -160,7 +123,7 @@ fn take_chunk(before: Reading, numbers: &mut [u32]) -> Chunk
 
 // A proved loop has to end, so it counts its turns down from a number that no run uses up.
 fn take_all(numbers: &mut [u32]) -> Reading
-    requires { ⌜ 326 ≤ length (now numbers) ⌝ }
+    requires { ⌜ 0 < length (now numbers) ⌝ }
 {
     let mut reading = new_line(&mut *numbers);
     let mut turns = u64::MAX;

@@ -5,6 +5,15 @@ use borrow.Author.Needs.{needs}
 use Rattle.station_table.proofs.print_stations.Statement.{statement}
 use Rattle.station_table.proofs.print_stations.Tie as tie
 
+sub-line-of : tie.Need-sub-line-of
+sub-line-of c = search needs
+
+part-line-of-start : tie.Need-part-line-of-start
+part-line-of-start c = search needs
+
+part-line-of-end : tie.Need-part-line-of-end
+part-line-of-end c = search needs
+
 line-of-requires : tie.Need-line-of-requires
 line-of-requires c κs = search needs
 
@@ -30,6 +39,9 @@ pub print-stations-spec : {M : Type 1} → statement M
 print-stations-spec =
     tie.close
     (tie.spec
+    sub-line-of
+    part-line-of-start
+    part-line-of-end
     line-of-requires
     shared-slice-read-room-of
     room-of-requires

@@ -1,0 +1,3 @@
+-- Laws of the digits, and examples.
+pub mod ByCases
+pub mod Examples

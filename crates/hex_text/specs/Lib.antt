@@ -1,0 +1,2 @@
+-- What the contracts of `hex_text` cite.
+pub mod Digits

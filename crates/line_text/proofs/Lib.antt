@@ -1,0 +1,3 @@
+-- Laws of the line that numbers spell, and examples.
+pub mod Filling
+pub mod Examples

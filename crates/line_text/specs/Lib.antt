@@ -1,0 +1,2 @@
+-- What the contracts of `line_text` cite.
+pub mod Numbers
