@@ -2,20 +2,15 @@
 use mathlib.Core.Path.{_≡_, sym, _∙_, ap}
 use mathlib.Core.List.{List, [], _∷_, _++_, map, map-append}
 use Prim.Native.Nat.{ℕ, zero, suc, _+_, _*_, _≤_}
-use native.Mathlib.Numerals.{add-one, add-two, add-three}
+use native.Mathlib.Numerals.{add-one}
 use native.Mathlib.Omega.{arith}
-use lib.IntN.{ℤ, pos, natAbs, _+ℤ_}
+use lib.IntN.{pos, natAbs, _+ℤ_}
 use lib.ListN.{length, take, drop, getD, set, length-append}
-use lib.Seq.{sets-eq, set-at, take-at, drop-at, drop-cons, drop-drop, append-snoc}
+use lib.Seq.{set-at, take-at, drop-at, drop-cons, drop-drop, append-snoc}
 use Rattle.line.specs.declared.Line.{Line}
 use Rattle.calculator.specs.Stations.{spiralAt, arcAt, straightAt, formerST, pointsAt, endOf, curveStations, stationsOf, stationRow}
 use Rattle.calculator.specs.Answer.{stationCount}
 use Rattle.calculator.specs.Lengths.{fourFrom}
-
--- Four stores, one after the other.
-pub four-stored : (xs : List ℕ) (k a b c d : ℕ) → k + 4 ≤ length xs
-    → set (set (set (set xs k a) (k + 1) b) (k + 2) c) (k + 3) d ≡ take k xs ++ (a ∷ b ∷ c ∷ d ∷ []) ++ drop (k + 4) xs
-four-stored xs k a b c d h = rw (add-one, add-two, add-three) (sets-eq (a ∷ b ∷ c ∷ d ∷ []) xs k h)
 
 -- The numbers of the first i curves.
 abbrev pub numbersTo : Line → ℕ → List ℕ

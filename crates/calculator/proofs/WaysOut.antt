@@ -1,18 +1,18 @@
 -- The calculator's answer and row, for each way out: refused by 3 to 15, by 16, or filled. Assumes nothing.
-use mathlib.Core.Path.{_≡_, refl, sym, _∙_, ap}
+use mathlib.Core.Path.{_≡_, refl, _∙_, ap}
 use mathlib.Core.List.{List, _++_, map-append}
 use Prim.Native.Nat.{ℕ, _<_, _≤_}
 use native.Mathlib.Omega.{arith}
 use lib.IntN.{natAbs}
 use lib.ListN.{length, drop, length-append}
-use borrow.Author.Tests.{le-leb, lt-leb}
 use Rattle.refusals.specs.declared.Refusal.{Refusal}
 use Rattle.refusals.specs.declared.Verdict.{Verdict}
 use Rattle.refusals.specs.declared.Verdict.the-variants.{Pass, Refused}
 use Rattle.refusals.specs.Table.{numberOf, placeOf}
-use Rattle.refusals.specs.Outcomes.{Outcome, refused, outcomeOf}
+use Rattle.refusals.specs.Outcomes.{passed, outcomeOf}
 use Rattle.refusals.specs.Filling.{filled, unfilled, countAfter, bufferAfter}
-use Rattle.refusals.proofs.Joining.{refused-first, passed-first}
+use Rattle.refusals.proofs.Joining.{passed-first}
+use Rattle.refusals.proofs.FillWays.{refused-by-checks, too-small, filled-whole}
 use Rattle.line.specs.declared.Line.{Line}
 use Rattle.calculator.specs.Stations.{curveStations, stationsOf, stationRow}
 use Rattle.calculator.specs.Answer.{alignmentOutcome, stationCount, roomCheck, stationsOutcome, stationsAnswer, stationsRow}
@@ -31,28 +31,20 @@ row-count line =
 pub small-row : (line : Line) (row : List ℕ) → length row < stationCount line
     → (unfilled 16 0 ≡ countAfter (roomCheck line (length row)) (stationCount line)) × (row ≡ bufferAfter (roomCheck line (length row)) (stationRow line) row)
 unfolding roomCheck
-small-row line row h = rw (lt-leb (stationCount line) (length row) h) (refl, refl)
+small-row line row h = too-small passed (stationRow line) row (stationCount line) refl h
 
 pub filled-row : (line : Line) (row row′ : List ℕ) → stationCount line ≤ length row → row′ ≡ stationRow line ++ drop (stationCount line) row
     → (filled (stationCount line) ≡ countAfter (roomCheck line (length row)) (stationCount line)) × (row′ ≡ bufferAfter (roomCheck line (length row)) (stationRow line) row)
 unfolding roomCheck
-filled-row line row row′ h e =
-    rw (le-leb (stationCount line) (length row) h) (refl, e ∙ ap (λ (n : ℕ). stationRow line ++ drop n row) (sym (row-count line)))
+filled-row line row row′ h e = filled-whole passed (stationRow line) row (stationCount line) refl (row-count line) h e
 
 -- ---- 3 to 15
-
-refused-call : (line : Line) (row : List ℕ) {n p : ℕ} → refused n p ≡ stationsOutcome line (length row)
-    → (unfilled n p ≡ stationsAnswer line (length row)) × (row ≡ stationsRow line row)
-unfolding stationsAnswer stationsRow
-refused-call line row e =
-    (ap (λ (o : Outcome). countAfter o (stationCount line)) e, ap (λ (o : Outcome). bufferAfter o (stationRow line) row) e)
 
 module _ (line : Line) (row : List ℕ) (v : Verdict) (checked : outcomeOf v ≡ alignmentOutcome line) where
   pub refused-line : {r : Refusal} → v ≡ Refused r
       → (unfilled (numberOf r) (placeOf r) ≡ stationsAnswer line (length row)) × (row ≡ stationsRow line row)
-  unfolding stationsOutcome
-  refused-line e =
-      refused-call line row (sym (ap outcomeOf e) ∙ refused-first v _ (roomCheck line (length row)) e checked)
+  unfolding stationsAnswer stationsRow stationsOutcome roomCheck
+  refused-line e = refused-by-checks (alignmentOutcome line) (stationRow line) row (stationCount line) v checked e
 
   pub passed-line : v ≡ Pass → roomCheck line (length row) ≡ stationsOutcome line (length row)
   unfolding stationsOutcome

@@ -2,7 +2,7 @@
 use mathlib.Core.Path.{refl}
 use native.Mathlib.Omega.{arith}
 use lib.ListN.{length-set}
-use Rattle.calculator.proofs.RowSteps.{four-stored}
+use Rattle.numbers.proofs.Stores.{four-stored}
 use borrow.Author.Needs.{needs}
 use Rattle.calculator.proofs.row.store_curve.Statement.{statement}
 use Rattle.calculator.proofs.row.store_curve.Tie as tie
