@@ -25,12 +25,17 @@ pub const RADIUS: usize = 23;
 
 pub const SPIRAL: usize = 19;
 
+// The bits of the head, and of a distance with its curve.
+const HEAD: usize = EDITION + COUNT + SPEED + CROSSFALL + START;
+
+const ENTRY: usize = DISTANCE + SIDE + DEFLECTION + RADIUS + SPIRAL;
+
 // The bit where distance `i` begins; the curve after it follows.
 pub fn entry_at(i: usize) -> usize
     requires { ⌜ i < 128 ⌝ }
     ensures { λ r. ⌜ r ≡ entryAt firstEdition i ⌝ }
 {
-    50 + 87 * i
+    HEAD + ENTRY * i
 }
 
 // How many bits a sheet of `n` curves has before it is filled to a whole byte.
