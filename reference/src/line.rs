@@ -22,6 +22,24 @@ pub enum Side {
     Left,
 }
 
+impl Side {
+    /// 1 is left, anything else right.
+    pub fn of(number: u32) -> Side {
+        match number {
+            1 => Side::Left,
+            _ => Side::Right,
+        }
+    }
+
+    /// 0 right, 1 left.
+    pub fn number(self) -> u32 {
+        match self {
+            Side::Right => 0,
+            Side::Left => 1,
+        }
+    }
+}
+
 /// A line, its fields in range or not. Distances and curves beyond the n-th
 /// curve are unused entries.
 #[derive(Clone, Debug, PartialEq, Eq)]
@@ -77,6 +95,11 @@ impl Line {
         Line::new(70, 8, 0, &[500_000, 400_000], &[curve])
     }
 
+    /// Document 01's case 9.
+    pub fn case_9() -> Line {
+        Line::new(70, 8, 0, &[500_000], &[])
+    }
+
     /// n, as a number of entries.
     pub fn curve_count(&self) -> usize {
         usize::try_from(self.n).expect("32 bits fit")
@@ -96,16 +119,11 @@ impl Line {
     /// Order).
     pub fn check_ranges(&self) -> Result<(), Refusal> {
         self.check_heading()?;
-        self.check_distance(0)?;
-        for i in 1..=self.curve_count() {
-            self.check_curve(i)?;
-            self.check_distance(i)?;
-        }
-        Ok(())
+        self.check_entries()
     }
 
     /// Checks 3 to 6.
-    fn check_heading(&self) -> Result<(), Refusal> {
+    pub fn check_heading(&self) -> Result<(), Refusal> {
         if self.curve_count() > MOST_CURVES {
             return refuse(3, 0);
         }
@@ -115,6 +133,16 @@ impl Line {
         }
         if self.start > GREATEST_START {
             return refuse(6, 0);
+        }
+        Ok(())
+    }
+
+    /// Checks 8 to 11 in sheet order, n being in range.
+    pub fn check_entries(&self) -> Result<(), Refusal> {
+        self.check_distance(0)?;
+        for i in 1..=self.curve_count() {
+            self.check_curve(i)?;
+            self.check_distance(i)?;
         }
         Ok(())
     }
@@ -144,6 +172,17 @@ mod tests {
     fn greatest(n: usize) -> Line {
         let curves = vec![Curve::new(432_000, 5_000_000, 500_000); n];
         Line::new(120, 12, 200_000_000, &vec![20_000_000; n + 1], &curves)
+    }
+
+    #[test]
+    fn only_1_is_left() {
+        assert_eq!(Side::of(1), Side::Left);
+        for number in [0, 2, 3, MOST] {
+            assert_eq!(Side::of(number), Side::Right);
+        }
+        for side in [Side::Right, Side::Left] {
+            assert_eq!(Side::of(side.number()), side);
+        }
     }
 
     #[test]

@@ -182,8 +182,7 @@ mod tests {
 
     #[test]
     fn case_9() {
-        let line = Line::new(70, 8, 0, &[500_000], &[]);
-        assert_eq!(call(&line, 2), (Ok(1), vec![500_000_000, 7]));
+        assert_eq!(call(&Line::case_9(), 2), (Ok(1), vec![500_000_000, 7]));
     }
 
     #[test]

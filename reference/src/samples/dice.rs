@@ -40,6 +40,11 @@ impl Dice {
         self.between(number(least), number(most)) as usize
     }
 
+    /// A byte, all alike.
+    pub fn byte(&mut self) -> u8 {
+        self.between(0, 255) as u8
+    }
+
     /// One of these, all alike.
     pub fn one_of<T: Copy>(&mut self, choices: &[T]) -> T {
         choices[self.index(0, choices.len() - 1)]

@@ -1,27 +1,32 @@
-//! Faults put into a line that passes every check.
+//! Faults put into a call that is accepted.
 
 use super::dice::Dice;
 use super::limits::{
     greatest_spiral, least_deflection, least_distance, least_radius, least_spiral,
 };
+use crate::call::{Call, Callee};
 use crate::curve::Curve;
 use crate::elements::{GREATEST_DEFLECTION, GREATEST_RADIUS, SMALLEST_RADIUS};
 use crate::line::{Line, GREATEST_DISTANCE, GREATEST_START};
 use crate::refusal::Refusal;
 use crate::road_tables::DesignSpeed;
-use crate::station_call::StationCall;
 
 /// The calculator's refusals, in an order in which each fault can be put after
 /// the former ones: first those that are worked from fields in range, a curve's
 /// before its straights'.
 const PUT_ORDER: [u8; 13] = [16, 12, 13, 14, 15, 11, 10, 9, 8, 6, 5, 4, 3];
 
-/// A fault that the line could have: any refusal, at any of its places.
-pub fn any_fault(dice: &mut Dice, line: &Line) -> Refusal {
+/// The writer's refusals.
+const OF_THE_WRITER: [u8; 9] = [16, 11, 10, 9, 8, 6, 5, 4, 3];
+
+/// A fault that a call with the line could have: any refusal of the callee, at
+/// any of its places.
+pub fn any_fault(dice: &mut Dice, callee: Callee, line: &Line) -> Refusal {
     let n = line.curve_count();
-    let number = match n {
-        0 => dice.one_of(&[3, 4, 5, 6, 8, 16]),
-        _ => dice.one_of(&PUT_ORDER),
+    let number = match (n, callee) {
+        (0, _) => dice.one_of(&[3, 4, 5, 6, 8, 16]),
+        (_, Callee::Calculator) => dice.one_of(&PUT_ORDER),
+        (_, Callee::Writer) => dice.one_of(&OF_THE_WRITER),
     };
     let place = match number {
         8 | 15 => dice.index(0, n),
@@ -31,16 +36,16 @@ pub fn any_fault(dice: &mut Dice, line: &Line) -> Refusal {
     Refusal { number, place }
 }
 
-/// Puts a fault for each of these refusals into a call that is accepted.
-pub fn put_faults(dice: &mut Dice, call: &mut StationCall, faults: &[Refusal]) {
+/// Puts a fault for each of these refusals into a call that the callee accepts.
+pub fn put_faults(dice: &mut Dice, callee: Callee, call: &mut Call, faults: &[Refusal]) {
     for number in PUT_ORDER {
         for fault in faults.iter().filter(|fault| fault.number == number) {
-            put_fault(dice, call, *fault);
+            put_fault(dice, callee, call, *fault);
         }
     }
 }
 
-fn put_fault(dice: &mut Dice, call: &mut StationCall, fault: Refusal) {
+fn put_fault(dice: &mut Dice, callee: Callee, call: &mut Call, fault: Refusal) {
     let line = &mut call.line;
     let i = fault.place;
     match fault.number {
@@ -50,7 +55,7 @@ fn put_fault(dice: &mut Dice, call: &mut StationCall, fault: Refusal) {
         6 => line.start = dice.one_of(&[GREATEST_START + 1, u32::MAX]),
         8 => line.distances[i] = dice.one_of(&[0, GREATEST_DISTANCE + 1, u32::MAX]),
         15 => line.distances[i] = number_below(dice, 1, least_distance(line, i)),
-        16 => call.room = number_below(dice, 0, 4 * line.n + 1),
+        16 => call.room = number_below(dice, 0, callee.room_for(line.n)),
         number => line.curves[i - 1] = faulty_curve(dice, line, i, number),
     }
 }
@@ -116,11 +121,12 @@ mod tests {
     use super::super::roads::road;
     use super::*;
 
-    /// An accepted call with faults for these refusals.
-    fn faulty(dice: &mut Dice, n: usize, faults: &[Refusal]) -> StationCall {
-        let line = road(dice, n);
-        let mut call = StationCall { room: 257, line };
-        put_faults(dice, &mut call, faults);
+    const CALLEES: [Callee; 2] = [Callee::Calculator, Callee::Writer];
+
+    /// A call that either callee accepts, with faults for these refusals.
+    fn faulty(dice: &mut Dice, callee: Callee, line: Line, faults: &[Refusal]) -> Call {
+        let mut call = Call { room: 706, line };
+        put_faults(dice, callee, &mut call, faults);
         call
     }
 
@@ -131,13 +137,14 @@ mod tests {
     #[test]
     fn one_fault_is_the_refusal() {
         let mut dice = Dice::new(1);
-        for n in (0..=10).chain([64]) {
-            for _ in 0..100 {
-                let line = road(&mut dice, n);
-                let fault = any_fault(&mut dice, &line);
-                let mut call = StationCall { room: 257, line };
-                put_faults(&mut dice, &mut call, &[fault]);
-                assert_eq!(call.make().0, Err(fault), "{call}");
+        for callee in CALLEES {
+            for n in (0..=10).chain([64]) {
+                for _ in 0..100 {
+                    let line = road(&mut dice, n);
+                    let fault = any_fault(&mut dice, callee, &line);
+                    let call = faulty(&mut dice, callee, line, &[fault]);
+                    assert_eq!(call.answer(callee), Err(fault), "{call}");
+                }
             }
         }
     }
@@ -145,11 +152,21 @@ mod tests {
     #[test]
     fn first_fault_in_order_is_the_refusal() {
         let mut dice = Dice::new(1);
-        for number in [8, 9, 10, 11, 12, 13, 14, 15] {
-            for _ in 0..100 {
-                let [first, second] = [fault(number, 1), fault(number, 2)];
-                let call = faulty(&mut dice, 3, &[second, first, fault(16, 0)]);
-                assert_eq!(call.make().0, Err(first), "{call}");
+        for callee in CALLEES {
+            for number in PUT_ORDER
+                .into_iter()
+                .filter(|number| (8..16).contains(number))
+            {
+                if callee == Callee::Writer && !OF_THE_WRITER.contains(&number) {
+                    continue;
+                }
+                for _ in 0..100 {
+                    let line = road(&mut dice, 3);
+                    let [first, second] = [fault(number, 1), fault(number, 2)];
+                    let faults = [second, first, fault(16, 0)];
+                    let call = faulty(&mut dice, callee, line, &faults);
+                    assert_eq!(call.answer(callee), Err(first), "{call}");
+                }
             }
         }
     }

@@ -1,27 +1,22 @@
 //! Lines at the edges of the calculator's checks.
 
+use super::call_edges::{
+    exact_call, faults_at_every_place, faulty_road, long_line, longest_road, range_edges,
+    range_faults, room_edges, Fault, LARGE_DEFLECTION,
+};
 use super::dice::Dice;
-use super::faults::put_faults;
 use super::limits::{least_radius, least_radius_of_spiral, least_spiral};
-use super::roads::{road, road_with_straight, shortest_road};
+use super::roads::{road_with_straight, shortest_road};
+use crate::call::{Call, Callee::Calculator};
 use crate::curve::Curve;
-use crate::elements::{GREATEST_DEFLECTION, GREATEST_RADIUS, GREATEST_SPIRAL, SMALLEST_RADIUS};
-use crate::line::{Line, GREATEST_DISTANCE, GREATEST_START, MOST_CURVES};
-use crate::refusal::Refusal;
+use crate::elements::{GREATEST_RADIUS, GREATEST_SPIRAL};
+use crate::line::Line;
 use crate::road_tables::{DesignSpeed, SPEEDS};
-use crate::station_call::{StationCall, MOST_ROOM};
-
-const MOST: u32 = u32::MAX;
-
-/// A deflection at which no spiral is too long for its arc.
-const LARGE_DEFLECTION: u32 = 300_000;
 
 /// Both sides of every check, at several places; then several faults at once.
-pub fn edges(dice: &mut Dice) -> Vec<StationCall> {
+pub fn edges(dice: &mut Dice) -> Vec<Call> {
     let lines = [
-        heading_edges(),
-        distance_edges(),
-        curve_edges(),
+        range_edges(),
         radius_edges(),
         SPEEDS.into_iter().flat_map(spiral_edges).collect(),
         whole_spiral_edges(),
@@ -29,89 +24,15 @@ pub fn edges(dice: &mut Dice) -> Vec<StationCall> {
         straight_edges(dice),
         vec![shortest_road(), longest_road()],
     ];
-    let mut calls: Vec<StationCall> = lines.into_iter().flatten().map(exact_call).collect();
-    calls.extend(room_edges(dice));
-    calls.extend(faults_at_every_place(dice));
+    let mut calls: Vec<Call> = lines
+        .into_iter()
+        .flatten()
+        .map(|line| exact_call(Calculator, line))
+        .collect();
+    calls.extend(room_edges(dice, Calculator));
+    calls.extend(faults_at_every_place(dice, Calculator, 8..=15));
     calls.extend(several_faults(dice));
     calls
-}
-
-/// The call with just the row that the line needs; for one with too many
-/// curves, as for the most.
-pub fn exact_call(line: Line) -> StationCall {
-    let n = line.n.min(MOST_CURVES as u32);
-    StationCall {
-        room: 4 * n + 1,
-        line,
-    }
-}
-
-/// Document 01's case 9.
-pub fn without_curve() -> Line {
-    Line::new(70, 8, 0, &[500_000], &[])
-}
-
-/// A line of one curve with the greatest distances, enough for every tangent.
-fn long_line(v: u32, e: u32, curve: Curve) -> Line {
-    Line::new(v, e, 0, &[GREATEST_DISTANCE; 2], &[curve])
-}
-
-/// The edges of V, e, start and n, without a curve and with one.
-fn heading_edges() -> Vec<Line> {
-    let mut lines = Vec::new();
-    for line in [without_curve(), Line::case_1()] {
-        let line = || line.clone();
-        let speeds = [0, 39, 40, 41, 45, 119, 120, 121, 130, MOST];
-        lines.extend(speeds.map(|v| Line { v, ..line() }));
-        let crossfalls = [0, 1, 2, 12, 13, MOST];
-        lines.extend(crossfalls.map(|e| Line { e, ..line() }));
-        let starts = [1, GREATEST_START, GREATEST_START + 1, MOST];
-        lines.extend(starts.map(|start| Line { start, ..line() }));
-        let counts = [2, 64, 65, 127, 128, 1 << 31, MOST];
-        lines.extend(counts.map(|n| Line { n, ..line() }));
-    }
-    lines
-}
-
-/// The edges of the distances.
-fn distance_edges() -> Vec<Line> {
-    let mut lines = Vec::new();
-    for line in [without_curve(), Line::case_1()] {
-        for i in 0..=line.curve_count() {
-            for distance in [0, 1, GREATEST_DISTANCE, GREATEST_DISTANCE + 1, MOST] {
-                let mut line = line.clone();
-                line.distances[i] = distance;
-                lines.push(line);
-            }
-        }
-    }
-    lines
-}
-
-/// The edges of A, R and L.
-fn curve_edges() -> Vec<Line> {
-    let middle = Curve::new(LARGE_DEFLECTION, 1_000_000, 100_000);
-    let mut curves = Vec::new();
-    let deflections = [0, 1, GREATEST_DEFLECTION, GREATEST_DEFLECTION + 1, MOST];
-    curves.extend(deflections.map(|a| Curve { a, ..middle }));
-    let radii = [
-        0,
-        SMALLEST_RADIUS - 1,
-        GREATEST_RADIUS,
-        GREATEST_RADIUS + 1,
-        MOST,
-    ];
-    curves.extend(radii.map(|r| Curve { r, ..middle }));
-    let spirals = [0, 1, GREATEST_SPIRAL, GREATEST_SPIRAL + 1, MOST];
-    curves.extend(spirals.map(|l| Curve { l, ..middle }));
-    // L at R, and 1 mm over.
-    for r in [SMALLEST_RADIUS, 400_000] {
-        curves.extend([r, r + 1].map(|l| Curve { r, l, ..middle }));
-    }
-    curves
-        .into_iter()
-        .map(|curve| long_line(70, 8, curve))
-        .collect()
 }
 
 /// The least radius of every speed, and 1 mm less.
@@ -181,67 +102,9 @@ fn straight_edges(dice: &mut Dice) -> Vec<Line> {
     lines
 }
 
-/// The line whose every field is at its greatest.
-fn longest_road() -> Line {
-    let curve = Curve::new(GREATEST_DEFLECTION, GREATEST_RADIUS, GREATEST_SPIRAL);
-    let distances = [GREATEST_DISTANCE; MOST_CURVES + 1];
-    Line::new(120, 12, GREATEST_START, &distances, &[curve; MOST_CURVES])
-}
-
-/// Rows that are too short, exact, and longer.
-fn room_edges(dice: &mut Dice) -> Vec<StationCall> {
-    let mut calls = Vec::new();
-    for n in [0, 1, 3, MOST_CURVES] {
-        let exact = exact_call(road(dice, n));
-        let few = [
-            0,
-            exact.room - 1,
-            exact.room,
-            exact.room + 1,
-            exact.room + 4,
-        ];
-        let many = [MOST_ROOM, MOST_ROOM + 1, MOST];
-        let rooms = few.into_iter().chain(many);
-        calls.extend(rooms.map(|room| StationCall {
-            room,
-            ..exact.clone()
-        }));
-    }
-    calls
-}
-
-/// Refusals 8 to 15 at the first, a middle and the last place of a road, and at
-/// the last of a full one.
-fn faults_at_every_place(dice: &mut Dice) -> Vec<StationCall> {
-    let mut calls = Vec::new();
-    for number in 8..=15 {
-        let first = usize::from(!matches!(number, 8 | 15));
-        for (n, place) in [(5, first), (5, 3), (5, 5), (MOST_CURVES, MOST_CURVES)] {
-            calls.push(faulty_road(dice, n, &[(number, place)]));
-        }
-    }
-    calls
-}
-
-/// Several faults at once for a road of four curves: numbers and places of
-/// their refusals, the first in the order of the checks standing first.
-const FAULTS_OF_FOUR: [&[(u8, usize)]; 29] = [
-    // Heading.
-    &[(3, 0), (4, 0), (5, 0), (6, 0)],
-    &[(3, 0), (4, 0)],
-    &[(4, 0), (5, 0)],
-    &[(5, 0), (6, 0)],
-    &[(6, 0), (8, 0)],
-    &[(6, 0), (16, 0)],
-    // Sheet order.
-    &[(8, 0), (9, 1)],
-    &[(9, 1), (8, 1)],
-    &[(8, 1), (9, 2)],
-    &[(11, 1), (8, 1)],
-    &[(9, 1), (10, 1), (11, 1)],
-    &[(10, 2), (11, 2)],
-    &[(11, 2), (9, 3)],
-    &[(8, 2), (16, 0)],
+/// Several faults at once for a road of four curves, the first in the order of
+/// the checks standing first; they follow those of the ranges.
+const FAULTS_OF_FOUR: [&[Fault]; 15] = [
     // Ranges before curves and straights.
     &[(11, 4), (12, 1)],
     &[(8, 4), (12, 1)],
@@ -263,40 +126,31 @@ const FAULTS_OF_FOUR: [&[(u8, usize)]; 29] = [
 ];
 
 /// The same for a full road.
-const FAULTS_OF_64: [&[(u8, usize)]; 3] = [
+const FAULTS_OF_64: [&[Fault]; 3] = [
     &[(13, 63), (12, 64)],
     &[(14, 64), (15, 0)],
     &[(15, 64), (16, 0)],
 ];
 
 /// Several faults at once, so that the order of the checks shows.
-fn several_faults(dice: &mut Dice) -> Vec<StationCall> {
-    let mut calls = Vec::new();
-    calls.extend(FAULTS_OF_FOUR.map(|faults| faulty_road(dice, 4, faults)));
-    calls.extend(FAULTS_OF_64.map(|faults| faulty_road(dice, 64, faults)));
+fn several_faults(dice: &mut Dice) -> Vec<Call> {
+    let mut calls = range_faults(dice, Calculator);
+    calls.extend(FAULTS_OF_FOUR.map(|faults| faulty_road(dice, Calculator, 4, faults)));
+    calls.extend(FAULTS_OF_64.map(|faults| faulty_road(dice, Calculator, 64, faults)));
     calls
-}
-
-/// A road of `n` curves with the faults of these refusals: number and place.
-fn faulty_road(dice: &mut Dice, n: usize, faults: &[(u8, usize)]) -> StationCall {
-    let mut call = exact_call(road(dice, n));
-    let faults: Vec<Refusal> = faults
-        .iter()
-        .map(|&(number, place)| Refusal { number, place })
-        .collect();
-    put_faults(dice, &mut call, &faults);
-    call
 }
 
 #[cfg(test)]
 mod tests {
+    use super::super::call_edges::RANGE_FAULTS;
     use super::*;
+    use crate::refusal::refuse;
 
     /// Whether each line is accepted.
     fn accepted(lines: Vec<Line>) -> Vec<bool> {
         lines
             .into_iter()
-            .map(|line| exact_call(line).make().0.is_ok())
+            .map(|line| exact_call(Calculator, line).answer(Calculator).is_ok())
             .collect()
     }
 
@@ -318,11 +172,14 @@ mod tests {
 
     #[test]
     fn first_of_several_faults_is_the_refusal() {
-        let lists = FAULTS_OF_FOUR.into_iter().chain(FAULTS_OF_64);
+        let lists = RANGE_FAULTS
+            .into_iter()
+            .chain(FAULTS_OF_FOUR)
+            .chain(FAULTS_OF_64);
         let calls = several_faults(&mut Dice::new(1));
         for (faults, call) in lists.zip(calls) {
             let (number, place) = faults[0];
-            assert_eq!(call.make().0, Err(Refusal { number, place }), "{call}");
+            assert_eq!(call.answer(Calculator), refuse(number, place), "{call}");
         }
     }
 }

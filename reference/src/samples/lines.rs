@@ -1,30 +1,32 @@
 //! The sample lines, each with the length of the row that is lent: document
 //! 01's cases, the edges of the checks, then random lines.
 
+use super::call_edges::exact_call;
 use super::dice::Dice;
-use super::faults::{any_fault, put_faults};
-use super::line_edges::{edges, exact_call, without_curve};
-use super::roads::{any_number, fill_unused, road, road_with_straight};
+use super::line_edges::edges;
+use super::random_calls::{
+    accepted_call, any_numbers, faulty_call, fill_some_unused, roomy_call, scattered_numbers,
+};
+use super::roads::road_with_straight;
+use crate::call::{Call, Callee::Calculator};
 use crate::curve::Curve;
 use crate::line::{Line, MOST_CURVES};
-use crate::refusal::Refusal;
-use crate::station_call::StationCall;
 
 /// The first `count` sample lines of the seed's endless list.
-pub fn sample_lines(seed: u64, count: usize) -> impl Iterator<Item = StationCall> {
+pub fn sample_lines(seed: u64, count: usize) -> impl Iterator<Item = Call> {
     let mut dice = Dice::new(seed);
     let edges = edges(&mut dice);
     let random = std::iter::repeat_with(move || random_round(&mut dice)).flatten();
     document_cases()
         .into_iter()
-        .map(exact_call)
+        .map(|line| exact_call(Calculator, line))
         .chain(edges)
         .chain(random)
         .take(count)
 }
 
 /// The cases that document 01 gives for the calculator.
-fn document_cases() -> Vec<Line> {
+pub fn document_cases() -> Vec<Line> {
     vec![
         // Cases 1, 2 and 3.
         Line::case_1(),
@@ -46,7 +48,7 @@ fn document_cases() -> Vec<Line> {
         with_curve(Curve::new(1, 350_000, 0)),
         with_curve(Curve::new(1, 200_000, 0)),
         // Case 9.
-        without_curve(),
+        Line::case_9(),
     ]
 }
 
@@ -65,113 +67,51 @@ fn with_curve(curve: Curve) -> Line {
 }
 
 /// One round of random lines, some of each kind.
-fn random_round(dice: &mut Dice) -> Vec<StationCall> {
+fn random_round(dice: &mut Dice) -> Vec<Call> {
     let mut calls = Vec::new();
     for (least, most) in [(0, 0), (1, 1), (2, 2), (3, 10), (3, 10), (3, 10), (11, 40)] {
-        calls.push(accepted_call(dice, least, most));
+        calls.push(accepted_call(dice, Calculator, least, most));
     }
-    calls.push(accepted_call(dice, MOST_CURVES, MOST_CURVES));
+    calls.push(accepted_call(dice, Calculator, MOST_CURVES, MOST_CURVES));
     calls.extend([
         near_least_straight(dice),
         near_least_straight(dice),
-        faulty_call(dice, 1),
-        faulty_call(dice, 1),
-        faulty_call(dice, 1),
-        faulty_call(dice, 2),
-        faulty_call(dice, 2),
-        faulty_call(dice, 3),
-        scattered_numbers(dice),
-        scattered_numbers(dice),
+        faulty_call(dice, Calculator, 1),
+        faulty_call(dice, Calculator, 1),
+        faulty_call(dice, Calculator, 1),
+        faulty_call(dice, Calculator, 2),
+        faulty_call(dice, Calculator, 2),
+        faulty_call(dice, Calculator, 3),
+        scattered_numbers(dice, Calculator),
+        scattered_numbers(dice, Calculator),
         any_numbers(dice),
     ]);
-    for call in &mut calls {
-        if dice.once_in(3) {
-            let count = dice.one_of(&[1, 1, 2, 3, 5, MOST_CURVES]);
-            fill_unused(dice, &mut call.line, count);
-        }
-    }
+    fill_some_unused(dice, &mut calls);
     calls
 }
 
-/// The call with a row that is long enough.
-fn roomy_call(dice: &mut Dice, line: Line) -> StationCall {
-    let mut call = exact_call(line);
-    call.room += dice.one_of(&[0, 0, 0, 1, 1, 2, 2, 4, 20]);
-    call
-}
-
-/// A road of `least` to `most` curves.
-fn accepted_call(dice: &mut Dice, least: usize, most: usize) -> StationCall {
-    let n = dice.index(least, most);
-    let line = road(dice, n);
-    roomy_call(dice, line)
-}
-
 /// A road with a straight within a few µm of the least, on either side.
-fn near_least_straight(dice: &mut Dice) -> StationCall {
+fn near_least_straight(dice: &mut Dice) -> Call {
     let n = dice.index(1, 10);
     let i = dice.index(0, n);
     let straight = i128::from(dice.between(995, 1_010));
     let line = road_with_straight(dice, n, i, straight);
-    roomy_call(dice, line)
-}
-
-/// A road with this many faults.
-fn faulty_call(dice: &mut Dice, count: usize) -> StationCall {
-    let mut call = if dice.once_in(12) {
-        accepted_call(dice, MOST_CURVES, MOST_CURVES)
-    } else {
-        accepted_call(dice, 0, 8)
-    };
-    let faults: Vec<Refusal> = (0..count).map(|_| any_fault(dice, &call.line)).collect();
-    put_faults(dice, &mut call, &faults);
-    call
-}
-
-/// A road with any number in some of its entries.
-fn scattered_numbers(dice: &mut Dice) -> StationCall {
-    let mut call = accepted_call(dice, 2, 10);
-    let n = call.line.curve_count();
-    let curves = &mut call.line.curves[..n];
-    let entries = call.line.distances[..=n]
-        .iter_mut()
-        .chain(curves.iter_mut().flat_map(|Curve { a, r, l }| [a, r, l]));
-    for entry in entries {
-        if dice.once_in(15) {
-            *entry = any_number(dice);
-        }
-    }
-    call
-}
-
-/// Any number in every field.
-fn any_numbers(dice: &mut Dice) -> StationCall {
-    let mut line = Line {
-        v: any_number(dice),
-        e: any_number(dice),
-        start: any_number(dice),
-        n: 0,
-        ..Line::blank()
-    };
-    fill_unused(dice, &mut line, 4);
-    line.distances[0] = any_number(dice);
-    line.n = dice.one_of(&[0, 2, 4, 65, u32::MAX]);
-    let room = any_number(dice);
-    StationCall { room, line }
+    roomy_call(dice, Calculator, line)
 }
 
 #[cfg(test)]
 mod tests {
     use super::*;
+    use crate::refusal::Refusal;
     use std::collections::BTreeSet;
 
     /// The list that make-samples stores.
-    fn list() -> Vec<StationCall> {
+    fn list() -> Vec<Call> {
         sample_lines(2, 600).collect()
     }
 
-    fn refusals(calls: &[StationCall]) -> Vec<(&StationCall, Refusal)> {
-        let refusal = |call: &StationCall| call.make().0.err();
+    fn refusals(calls: &[Call]) -> Vec<(&Call, Refusal)> {
+        let refusal = |call: &Call| call.answer(Calculator).err();
         calls
             .iter()
             .filter_map(|call| Some((call, refusal(call)?)))
@@ -192,7 +132,7 @@ mod tests {
     fn document_cases_are_answered_as_printed() {
         let refusals: Vec<(u8, usize)> = document_cases()
             .into_iter()
-            .filter_map(|line| exact_call(line).make().0.err())
+            .filter_map(|line| exact_call(Calculator, line).answer(Calculator).err())
             .map(|refusal| (refusal.number, refusal.place))
             .collect();
         let cases_3_4_5 = [(15, 0), (13, 1), (12, 1), (12, 1), (13, 1), (12, 1)];
@@ -205,7 +145,7 @@ mod tests {
         let calls = list();
         let accepted: Vec<usize> = calls
             .iter()
-            .filter(|call| call.make().0.is_ok())
+            .filter(|call| call.answer(Calculator).is_ok())
             .map(|call| call.line.curve_count())
             .collect();
         let counts: BTreeSet<usize> = accepted.iter().copied().collect();
@@ -241,7 +181,7 @@ mod tests {
     #[test]
     fn text_form_brings_every_line_back() {
         for call in list() {
-            assert_eq!(StationCall::read(call.to_string().as_bytes()), call);
+            assert_eq!(Call::read(call.to_string().as_bytes()), call);
         }
     }
 }

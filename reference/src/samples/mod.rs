@@ -5,7 +5,15 @@ pub mod curves;
 pub mod dice;
 pub mod limits;
 pub mod lines;
+pub mod ranges;
 pub mod roads;
+pub mod sheet_fields;
+pub mod sheets;
+pub mod writer_calls;
 
+mod call_edges;
 mod faults;
 mod line_edges;
+mod random_calls;
+mod sheet_edges;
+mod sheet_faults;

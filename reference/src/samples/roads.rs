@@ -77,7 +77,7 @@ fn unfitted_road(dice: &mut Dice, n: usize) -> Line {
     line
 }
 
-fn any_side(dice: &mut Dice) -> Side {
+pub fn any_side(dice: &mut Dice) -> Side {
     dice.one_of(&[Side::Right, Side::Left])
 }
 
