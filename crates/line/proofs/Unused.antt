@@ -27,20 +27,27 @@ module _ (l m : Line) (alike : AlikeWhereUsed l m) where
   unused-ignored =
       rw (same-body (l .count) (omega arith), alike .count, alike .speed, alike .crossfall, alike .start)
 
--- A line and the same with its unused entries zero.
-pub cleared-alike : (line : Line) → line .count ≤ 64 → AlikeWhereUsed (cleared line) line
-unfolding cleared
-cleared-alike line few =
-    record {
-      speed = refl;
-      crossfall = refl;
-      start = refl;
-      count = refl;
-      distance = λ i h. entries-get 65 (suc (line .count)) i (distanceAt line) 0 0 (omega arith) (omega (arith, few));
-      deflection = λ i h. ap (λ (c : Curve). c .deflection) (same-curve i h);
-      radius = λ i h. ap (λ (c : Curve). c .radius) (same-curve i h);
-      spiral = λ i h. ap (λ (c : Curve). c .spiral) (same-curve i h);
-    }
-  where
-    same-curve : (i : ℕ) → i < line .count → curveAt (cleared line) i ≡ curveAt line i
-    same-curve i h = entries-get 64 (line .count) i (curveAt line) blankCurve blankCurve h few
+-- ---- a line and the same with its unused entries zero
+
+module _ (line : Line) (few : line .count ≤ 64) where
+  pub cleared-distance : (i : ℕ) → i ≤ line .count → distanceAt (cleared line) i ≡ distanceAt line i
+  unfolding cleared
+  cleared-distance i h = entries-get 65 (suc (line .count)) i (distanceAt line) 0 0 (omega arith) (omega (arith, few))
+
+  pub cleared-curve : (i : ℕ) → i < line .count → curveAt (cleared line) i ≡ curveAt line i
+  unfolding cleared
+  cleared-curve i h = entries-get 64 (line .count) i (curveAt line) blankCurve blankCurve h few
+
+  pub cleared-alike : AlikeWhereUsed (cleared line) line
+  unfolding cleared
+  cleared-alike =
+      record {
+        speed = refl;
+        crossfall = refl;
+        start = refl;
+        count = refl;
+        distance = cleared-distance;
+        deflection = λ i h. ap (λ (c : Curve). c .deflection) (cleared-curve i h);
+        radius = λ i h. ap (λ (c : Curve). c .radius) (cleared-curve i h);
+        spiral = λ i h. ap (λ (c : Curve). c .spiral) (cleared-curve i h);
+      }

@@ -7,6 +7,7 @@ pub mod Frames
 pub mod LineSteps
 pub mod SheetSteps
 pub mod WaysOut
+pub mod Unused
 pub mod WrittenAgain
 pub mod ReadAgain
 pub mod RoundTrip
