@@ -1,6 +1,6 @@
 -- Document 01's cases 9 and 10 from the definitions, and single sheets and lines by computation. Assumes nothing.
 use mathlib.Core.Path.{_≡_, refl}
-use mathlib.Core.Bool.{true, false}
+use mathlib.Core.Bool.{true}
 use mathlib.Core.List.{List, [], _∷_, _++_}
 use Prim.Native.Nat.{ℕ}
 use lib.ListN.{length, replicate}
@@ -12,7 +12,7 @@ use Rattle.line.specs.Checks.{startOutcome, headOutcome, distanceOutcome, blank
 use Rattle.line.specs.Entries.{entries, blankLine}
 use Rattle.sheet.specs.Bits.{valueOf, bytesOf, bitsAt, valuesAt, packed}
 use Rattle.sheet.specs.Layout.{firstEdition, byteCount}
-use Rattle.sheet.specs.Reading.{headOf, distanceOf, curveOf, lineTo, sizeOutcome, frameOutcome, readOutcome, readLine}
+use Rattle.sheet.specs.Reading.{headOf, distanceOf, curveOf, lineOf, sizeOutcome, frameOutcome, readOutcome, readLine}
 use Rattle.sheet.specs.Writing.{entriesAfter, numberTo, sheetNumber, sheetOf, writeOutcome, writeAnswer, writeBytes}
 
 -- Case 9: "V 70, e 8, start 0, no curve, distance 500,000". The fill is the rest of the last byte.
@@ -97,7 +97,7 @@ pub record Examples : Type 0 where
   pub distance-before-room : writeAnswer firstEdition (line9 (0 ∷ []) []) 0 ≡ unfilled 8 0
 
 pub examples : Examples
-unfolding startOutcome headOutcome distanceOutcome curveOutcome bodyOutcome lineOutcome entries valueOf bytesOf bitsAt valuesAt packed headOf distanceOf curveOf lineTo sizeOutcome frameOutcome readOutcome readLine entriesAfter numberTo sheetNumber sheetOf writeOutcome writeAnswer writeBytes
+unfolding startOutcome headOutcome distanceOutcome curveOutcome bodyOutcome lineOutcome entries valueOf bytesOf bitsAt valuesAt packed headOf distanceOf curveOf lineOf sizeOutcome frameOutcome readOutcome readLine entriesAfter numberTo sheetNumber sheetOf writeOutcome writeAnswer writeBytes
 examples =
     record {
       case-9-read = refl;

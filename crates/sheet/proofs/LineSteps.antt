@@ -13,7 +13,7 @@ use Rattle.line.proofs.Entries.{entries-set}
 use Rattle.sheet.specs.declared.reader.Head.{Head}
 use Rattle.sheet.specs.Bits.{bitsAt, valuesAt}
 use Rattle.sheet.specs.Layout.{Edition, distanceWidth, curveWidths, entryAt}
-use Rattle.sheet.specs.Reading.{headOf, countOf, distanceOf, curveFrom, curveOf, lineTo, lineOf}
+use Rattle.sheet.specs.Reading.{headOf, countOf, distanceOf, curveFrom, curveOf, lineOf}
 
 -- A line of a head, distances and curves.
 abbrev pub lineWith : Head → List ℕ → List Curve → Line
@@ -28,9 +28,13 @@ lineWith head distances curves =
     }
 
 module _ (E : Edition) (s : List ℕ) where
+  -- The line of a sheet with its first distances and its first curves alone.
+  unfoldable pub lineTo : ℕ → ℕ → Line
+  lineTo distances curves = lineWith (headOf E s) (entries 65 distances (distanceOf E s) 0) (entries 64 curves (curveOf E s) blankCurve)
+
   -- The head is read.
   pub line-begun : {head : Head} {line : Line} → head ≡ headOf E s → line ≡ blankLine
-      → lineWith head (line .distances) (line .curves) ≡ lineTo E s 0 0
+      → lineWith head (line .distances) (line .curves) ≡ lineTo 0 0
   unfolding lineTo entries
   line-begun h b = λ j. lineWith (h j) (b j .distances) (b j .curves)
 
@@ -50,7 +54,7 @@ module _ (E : Edition) (s : List ℕ) where
       ∙ entries-set 64 i (curveOf E s) blankCurve h
 
   -- One distance and the curve after it more.
-  pub entry-read : (i : ℕ) {line : Line} {at d : ℕ} {curve : Curve} → i < 64 → line ≡ lineTo E s i i → at ≡ entryAt E i
+  pub entry-read : (i : ℕ) {line : Line} {at d : ℕ} {curve : Curve} → i < 64 → line ≡ lineTo i i → at ≡ entryAt E i
       → d ≡ bitsAt s at distanceWidth → curve ≡ curveFrom (valuesAt s (at + distanceWidth) curveWidths)
       → _≡_ {A = Line}
       (record {
@@ -61,12 +65,12 @@ module _ (E : Edition) (s : List ℕ) where
         distances = set (line .distances) i d;
         curves = set (line .curves) i curve;
       })
-      (lineTo E s (i + 1) (i + 1))
+      (lineTo (i + 1) (i + 1))
   unfolding lineTo
   entry-read i h l a d c = rw l (λ j. lineWith (headOf E s) (distance-read i (omega arith) a d j) (curve-read i h a c j))
 
   -- The last distance.
-  pub last-read : (n : ℕ) {line : Line} {at d : ℕ} → n < 65 → n ≡ countOf E s → line ≡ lineTo E s n n
+  pub last-read : (n : ℕ) {line : Line} {at d : ℕ} → n < 65 → n ≡ countOf E s → line ≡ lineTo n n
       → at ≡ entryAt E n → d ≡ bitsAt s at distanceWidth
       → _≡_ {A = Line}
       (record {
@@ -78,7 +82,7 @@ module _ (E : Edition) (s : List ℕ) where
         curves = line .curves;
       })
       (lineOf E s)
-  unfolding lineTo
+  unfolding lineTo lineOf
   last-read n h e l a d =
       rw l
       (λ j. lineWith (headOf E s)

@@ -22,7 +22,7 @@ use Rattle.line.proofs.InRange.{line-passes}
 use Rattle.line.proofs.Unused.{unused-ignored, cleared-alike}
 use Rattle.sheet.specs.Bits.{valueOf, bitsAt, valuesAt, total, Fit}
 use Rattle.sheet.specs.Layout.{Edition, Holds, headWidths, distanceWidth, entryWidths, entryAt, bitCount, byteCount, fillWidth}
-use Rattle.sheet.specs.Reading.{headFrom, curveFrom, headOf, distanceOf, curveOf, lineTo, lineOf, sizeOutcome, frameOutcome, readOutcome}
+use Rattle.sheet.specs.Reading.{headFrom, curveFrom, headOf, distanceOf, curveOf, lineOf, sizeOutcome, frameOutcome, readOutcome}
 use Rattle.sheet.specs.Writing.{sideBit, headValues, curveValues, entryValues, entriesAfter, numberTo, sheetNumber, sheetOf}
 use Rattle.sheet.proofs.Bytes.{value-bytes}
 use Rattle.sheet.proofs.Fields.{upTo, all-bits, packed-read, packed-lt}
@@ -130,7 +130,7 @@ module _ (E : Edition) (holds : Holds E) (line : Line) (ok : LineInRange line) w
   curve-again i h = ap (λ (l : List ℕ). curveFrom (drop 1 l)) (entry-again i h) ∙ curve-of-values (curveAt line i)
 
   pub line-again : lineOf E sheet ≡ cleared line
-  unfolding lineTo cleared
+  unfolding lineOf cleared
   line-again =
       let distances = entries-same 65 (suc (line .count)) (distanceOf E sheet) (distanceAt line) 0 (λ i h. distance-again i (omega arith)) in
       let curves = entries-same 64 (line .count) (curveOf E sheet) (curveAt line) blankCurve curve-again in

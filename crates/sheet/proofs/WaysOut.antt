@@ -11,7 +11,7 @@ use Rattle.refusals.proofs.Joining.{refused-first}
 use Rattle.line.specs.declared.Line.{Line}
 use Rattle.line.specs.Checks.{lineOutcome}
 use Rattle.sheet.specs.Layout.{Edition, byteCount}
-use Rattle.sheet.specs.Reading.{lineTo, lineOf, frameOutcome, readOutcome, lineAfter, readLine}
+use Rattle.sheet.specs.Reading.{lineOf, frameOutcome, readOutcome, lineAfter, readLine}
 use Rattle.sheet.specs.Writing.{sheetNumber, sheetOf}
 use Rattle.sheet.proofs.Bytes.{length-bytes}
 use Rattle.sheet.proofs.Frames.{framed}
@@ -21,7 +21,7 @@ use Rattle.sheet.proofs.Frames.{framed}
 module _ (E : Edition) (s : List ℕ) where
   -- Once 1 to 7 pass, the check of the line decides.
   pub line-decides : frameOutcome E s ≡ passed → lineOutcome (lineOf E s) ≡ readOutcome E s
-  unfolding readOutcome lineOutcome lineTo
+  unfolding readOutcome lineOutcome lineOf
   line-decides e =
       rw (e, framed E s e .head)
 

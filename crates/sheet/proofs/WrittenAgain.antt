@@ -8,7 +8,7 @@ use Rattle.line.specs.Checks.{distanceAt, blankCurve, curveAt}
 use Rattle.line.proofs.Entries.{entries-get}
 use Rattle.sheet.specs.Bits.{Bytes, valueOf, bytesOf, bitsAt, valuesAt, packed}
 use Rattle.sheet.specs.Layout.{Edition, headWidths, distanceWidth, entryWidths, entryAt, fillWidth}
-use Rattle.sheet.specs.Reading.{headOf, countOf, distanceOf, curveOf, lineTo, lineOf}
+use Rattle.sheet.specs.Reading.{headOf, countOf, distanceOf, curveOf, lineOf}
 use Rattle.sheet.specs.Writing.{sideBit, headValues, curveValues, entryValues, entriesAfter, numberTo, sheetNumber, sheetOf}
 use Rattle.sheet.proofs.Bytes.{bytes-value}
 use Rattle.sheet.proofs.Fields.{upTo, all-bits, no-bits, bits-lt, read-packed}
@@ -22,17 +22,17 @@ bit-of-side (suc (suc b)) h = absurd (omega arith)
 
 module _ (E : Edition) (s : List ℕ) (bytes : Bytes s) (frame : Framed E s) where
   head-values : headValues E (lineOf E s) ≡ valuesAt s 0 (headWidths E)
-  unfolding lineTo headOf valuesAt
+  unfolding lineOf headOf valuesAt
   head-values =
       let head = headOf E s in
       λ j. sym (frame .edition) j ∷ head .count ∷ head .speed ∷ head .crossfall ∷ head .start ∷ []
 
   same-distance : (i : ℕ) → i ≤ countOf E s → distanceAt (lineOf E s) i ≡ distanceOf E s i
-  unfolding lineTo
+  unfolding lineOf
   same-distance i h = entries-get 65 (suc (countOf E s)) i (distanceOf E s) 0 0 (omega arith) (omega (arith, frame .few))
 
   same-curve : (i : ℕ) → i < countOf E s → curveAt (lineOf E s) i ≡ curveOf E s i
-  unfolding lineTo
+  unfolding lineOf
   same-curve i h = entries-get 64 (countOf E s) i (curveOf E s) blankCurve blankCurve h (frame .few)
 
   entry-values : (i : ℕ) → i < countOf E s → entryValues (lineOf E s) i ≡ valuesAt s (entryAt E i) entryWidths
@@ -57,7 +57,7 @@ module _ (E : Edition) (s : List ℕ) (bytes : Bytes s) (frame : Framed E s) whe
       ∙ ap (upTo s) (omega arith)
 
   pub sheet-again : sheetOf E (lineOf E s) ≡ s
-  unfolding sheetOf sheetNumber lineTo distanceOf valuesAt
+  unfolding sheetOf sheetNumber lineOf distanceOf valuesAt
   sheet-again =
       let n = countOf E s in
       let widths = distanceWidth ∷ fillWidth E n ∷ [] in

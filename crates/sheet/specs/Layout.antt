@@ -46,5 +46,6 @@ bitCount E n = entryAt E n + distanceWidth
 abbrev pub byteCount : Edition → ℕ → ℕ
 byteCount E n = (bitCount E n + 7) / 8
 
+-- The zero bits of the last byte.
 abbrev pub fillWidth : Edition → ℕ → ℕ
 fillWidth E n = 8 * byteCount E n - bitCount E n

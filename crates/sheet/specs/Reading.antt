@@ -44,21 +44,17 @@ distanceOf E sheet i = bitsAt sheet (entryAt E i) distanceWidth
 unfoldable pub curveOf : Edition → List ℕ → ℕ → Curve
 curveOf E sheet i = curveFrom (valuesAt sheet (entryAt E i + distanceWidth) curveWidths)
 
--- The line with its first `distances` distances and its first `curves` curves; "The reader fills the unused entries of the line with zero."
-unfoldable pub lineTo : Edition → List ℕ → ℕ → ℕ → Line
-lineTo E sheet distances curves =
+-- The line of a sheet: n + 1 distances and n curves; "The reader fills the unused entries of the line with zero."
+unfoldable pub lineOf : Edition → List ℕ → Line
+lineOf E sheet =
     record {
       speed = headOf E sheet .speed;
       crossfall = headOf E sheet .crossfall;
       start = headOf E sheet .start;
-      count = headOf E sheet .count;
-      distances = entries 65 distances (distanceOf E sheet) 0;
-      curves = entries 64 curves (curveOf E sheet) blankCurve;
+      count = countOf E sheet;
+      distances = entries 65 (suc (countOf E sheet)) (distanceOf E sheet) 0;
+      curves = entries 64 (countOf E sheet) (curveOf E sheet) blankCurve;
     }
-
--- The line of a sheet: n + 1 distances and n curves.
-abbrev pub lineOf : Edition → List ℕ → Line
-lineOf E sheet = lineTo E sheet (suc (countOf E sheet)) (countOf E sheet)
 
 -- 1: "fewer bytes than n calls for"; 7: "more bytes than n calls for, or a fill bit set"
 unfoldable pub sizeOutcome : Edition → List ℕ → ℕ → Outcome
@@ -71,7 +67,7 @@ unfoldable pub frameOutcome : Edition → List ℕ → Outcome
 frameOutcome E sheet =
     need (leb 7 (length sheet)) 1 0
     ▹ need (eqb (headOf E sheet .edition) (E .number)) 2 0
-    ▹ headOutcome (headOf E sheet .count) (headOf E sheet .speed) (headOf E sheet .crossfall) (headOf E sheet .start)
+    ▹ headOutcome (countOf E sheet) (headOf E sheet .speed) (headOf E sheet .crossfall) (headOf E sheet .start)
     ▹ sizeOutcome E sheet (countOf E sheet)
 
 -- "then 8 to 11 in sheet order"
@@ -83,5 +79,6 @@ abbrev pub lineAfter : Outcome → Line → Line
 lineAfter passed line = line
 lineAfter (refused number place) line = blankLine
 
+-- The line that the reader answers.
 unfoldable pub readLine : Edition → List ℕ → Line
 readLine E sheet = lineAfter (readOutcome E sheet) (lineOf E sheet)

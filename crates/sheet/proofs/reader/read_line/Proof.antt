@@ -6,9 +6,9 @@ use borrow.Author.Needs.{needs}
 use lib.ListN.{length}
 use Rattle.sheet.specs.declared.reader.Head.{Head}
 use Rattle.sheet.specs.Layout.{firstEdition, bitCount}
-use Rattle.sheet.specs.Reading.{countOf, lineTo}
+use Rattle.sheet.specs.Reading.{countOf}
 use Rattle.sheet.proofs.Frames.{framed}
-use Rattle.sheet.proofs.LineSteps.{line-begun, entry-read, last-read}
+use Rattle.sheet.proofs.LineSteps.{lineTo, line-begun, entry-read, last-read}
 use Rattle.sheet.proofs.reader.read_line.Statement.{statement}
 use Rattle.sheet.proofs.reader.read_line.Tie as tie
 
