@@ -10,18 +10,13 @@ use decimal_text::read_byte;
 use elements::ElementAnswer;
 use elements::Elements;
 use libc::STDIN_FILENO;
-use libc::STDOUT_FILENO;
-use refusals::Refusal;
+use printing::print_number;
+use printing::print_refusal;
 
 // What one read of the input came to.
 struct Chunk {
     reading: Reading,
     ended: bool,
-}
-
-fn print_number(number: u64, after: &[u8]) {
-    io::print_decimal(STDOUT_FILENO, number);
-    io::write_all(STDOUT_FILENO, after);
 }
 
 fn print_elements(e: Elements) {
@@ -31,12 +26,6 @@ fn print_elements(e: Elements) {
     print_number(e.shift, b" ");
     print_number(e.arc, b" ");
     print_number(e.tangent, b"\n");
-}
-
-fn print_refusal(refusal: Refusal) {
-    io::write_all(STDOUT_FILENO, b"REFUSED ");
-    print_number(refusal.number() as u64, b" ");
-    print_number(refusal.place() as u64, b"\n");
 }
 
 fn print_curve(numbers: &[u32])

@@ -4,9 +4,9 @@ ghost use mathlib.Core.List.{_++_};
 ghost use Prim.Native.Nat.{ℕ, _+_, _*_, _^_, _<_, _≤_};
 ghost use lib.ListN.{length, take, drop};
 ghost use Rattle.sheet.specs.Bits.{bytesOf};
-ghost use Rattle.sheet.specs.Pens.{Ready, Put, position};
+ghost use Rattle.sheet.specs.Pens.{Put, position};
 
-// How far the bytes are written: `at` of them are stored, and `held` bits, less than a word, wait in `pending`.
+// How far the bytes are written: `at` of them are stored, and the last `held` bits of `pending`, less than a word, wait.
 pub struct Pen {
     pub at: usize,
     pub pending: u64,
@@ -26,8 +26,7 @@ fn store_word(bytes: &mut [u8], at: usize, word: u32)
 
 // One field more, of `width` bits; a whole word is stored.
 pub fn put(bytes: &mut [u8], pen: Pen, width: usize, value: u32) -> Pen
-    requires { ⌜ Ready pen ⌝ }
-    requires { ⌜ (width ≤ 32) × (value < 2 ^ width) × (position pen + width ≤ 8 * length (now bytes)) ⌝ }
+    requires { ⌜ (pen .held < 32) × (width ≤ 32) × (value < 2 ^ width) × (position pen + width ≤ 8 * length (now bytes)) ⌝ }
     ensures { λ r. ⌜ Put (now (bytes .entry)) (now (bytes .exit)) pen r width (λ x. x * 2 ^ width + value) ⌝ }
 {
     let at = pen.at;
@@ -37,26 +36,25 @@ pub fn put(bytes: &mut [u8], pen: Pen, width: usize, value: u32) -> Pen
         return Pen { at, pending, held };
     }
     let left = held - 32;
-    store_word(&mut *bytes, at, (pending >> left) as u32);
+    store_word(&mut *bytes, at, ((pending >> left) % 4294967296) as u32);
     Pen {
         at: at + 4,
-        pending: pending % (1 << left),
+        pending,
         held: left,
     }
 }
 
 // The whole bytes that wait are stored.
 pub fn flush(bytes: &mut [u8], pen: Pen) -> Pen
-    requires { ⌜ Ready pen × (position pen ≤ 8 * length (now bytes)) ⌝ }
+    requires { ⌜ (pen .held < 32) × (position pen ≤ 8 * length (now bytes)) ⌝ }
     ensures { λ r. ⌜ Put (now (bytes .entry)) (now (bytes .exit)) pen r 0 (λ x. x) × (r .held < 8) ⌝ }
 {
+    let pending = pen.pending;
     let mut at = pen.at;
-    let mut pending = pen.pending;
     let mut held = pen.held;
     while 8 <= held {
         held -= 8;
-        bytes[at] = (pending >> held) as u8;
-        pending %= 1 << held;
+        bytes[at] = ((pending >> held) % 256) as u8;
         at += 1;
     }
     Pen { at, pending, held }

@@ -1,7 +1,7 @@
 // The writer: the sheet of a line at the front of the caller's bytes.
 ghost use mathlib.Core.Path.{_≡_};
 ghost use mathlib.Core.List.{[], _∷_, _++_};
-ghost use Prim.Native.Nat.{_+_, _*_, _≤_};
+ghost use Prim.Native.Nat.{_+_, _*_, _<_, _≤_};
 ghost use lib.ListN.{length, drop};
 ghost use Rattle.refusals.specs.Outcomes.{passed};
 ghost use Rattle.refusals.specs.Filling.{fillReplyOf};
@@ -9,7 +9,7 @@ ghost use Rattle.line.specs.Checks.{lineOutcome};
 ghost use Rattle.sheet.specs.Bits.{packed, total, Fit};
 ghost use Rattle.sheet.specs.Layout.{firstEdition, headWidths, entryWidths, byteCount};
 ghost use Rattle.sheet.specs.Writing.{sideBit, curveValues, sheetOf, writeAnswer, writeBytes};
-ghost use Rattle.sheet.specs.Pens.{Ready, Put, position};
+ghost use Rattle.sheet.specs.Pens.{Put, position};
 use crate::layout::COUNT;
 use crate::layout::CROSSFALL;
 use crate::layout::DEFLECTION;
@@ -40,7 +40,7 @@ fn side_bit(left: bool) -> u32
 
 // The head.
 fn put_head(bytes: &mut [u8], pen: Pen, count: u32, speed: u32, crossfall: u32, start: u32) -> Pen
-    requires { ⌜ Ready pen × Fit (headWidths firstEdition) (1 ∷ count ∷ speed ∷ crossfall ∷ start ∷ []) ⌝ }
+    requires { ⌜ (pen .held < 32) × Fit (headWidths firstEdition) (1 ∷ count ∷ speed ∷ crossfall ∷ start ∷ []) ⌝ }
     requires { ⌜ position pen + total (headWidths firstEdition) ≤ 8 * length (now bytes) ⌝ }
     ensures { λ r.
         ⌜
@@ -57,7 +57,7 @@ fn put_head(bytes: &mut [u8], pen: Pen, count: u32, speed: u32, crossfall: u32, 
 
 // A distance, and the curve after it.
 fn put_entry(bytes: &mut [u8], pen: Pen, distance: u32, curve: Curve) -> Pen
-    requires { ⌜ Ready pen × Fit entryWidths (distance ∷ curveValues curve) ⌝ }
+    requires { ⌜ (pen .held < 32) × Fit entryWidths (distance ∷ curveValues curve) ⌝ }
     requires { ⌜ position pen + total entryWidths ≤ 8 * length (now bytes) ⌝ }
     ensures { λ r.
         ⌜

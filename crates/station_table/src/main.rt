@@ -12,8 +12,7 @@ use libc::STDIN_FILENO;
 use libc::STDOUT_FILENO;
 use line::Line;
 use line_text::line_of;
-use refusals::FillAnswer;
-use refusals::Refusal;
+use printing::print_answer;
 
 // The numbers of a line of text: the room, and 325 for the line.
 const NUMBERS: usize = 326;
@@ -22,24 +21,6 @@ const NUMBERS: usize = 326;
 struct Chunk {
     reading: Reading,
     ended: bool,
-}
-
-fn print_number(number: u64, after: &[u8]) {
-    io::print_decimal(STDOUT_FILENO, number);
-    io::write_all(STDOUT_FILENO, after);
-}
-
-fn print_refusal(refusal: Refusal) {
-    io::write_all(STDOUT_FILENO, b"REFUSED ");
-    print_number(refusal.number() as u64, b" ");
-    print_number(refusal.place() as u64, b"\n");
-}
-
-fn print_answer(answer: FillAnswer) {
-    match answer {
-        FillAnswer::Count(count) => print_number(count as u64, b"\n"),
-        FillAnswer::Refused(refusal) => print_refusal(refusal),
-    }
 }
 
 fn print_row(row: &[u64]) {

@@ -1,6 +1,5 @@
 -- `take_all` is safe and ends: the turns that are left fall. Assumes nothing.
 use mathlib.Core.Path.{_≡_}
-use Prim.Native.Nat.{_-_}
 use lib.ListN.{length}
 use borrow.Author.Needs.{needs}
 use Rattle.element_table.proofs.take_all.Statement.{statement}

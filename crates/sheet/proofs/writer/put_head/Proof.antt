@@ -17,17 +17,20 @@ put-requires-3 c κs = search needs
 
 put-requires-4 : tie.Need-put-requires-4
 put-requires-4 c κs =
-    let fits = c .before .before .before .before .before .before .before .before .before .before .before .before .before .before .pre .0 .1 .1 .1 .1 .0 in (
-      c .before .before .before .put3 .ensures .ready,
-      (omega arith, fits, omega (arith, c .before .before .before .before .before .before .before .before .before .before .before .before .before .before .pre .1, c .before .before .before .put3 .ensures .moved, c .before .before .before .put3 .kept .0, c .before .before .before .before .before .before .before .put2 .ensures .moved, c .before .before .before .before .before .before .before .put2 .kept .0, c .before .before .before .before .before .before .before .before .before .before .before .put .ensures .moved, c .before .before .before .before .before .before .before .before .before .before .before .put .kept .0)),
-    )
+    let start = c .before .before .before .before .before .before .before .before .before .before .before .before .before .before in
+    let first = c .before .before .before .before .before .before .before .before .before .before .before .put in
+    let second = c .before .before .before .before .before .before .before .put2 in
+    let third = c .before .before .before .put3 in
+    (third .ensures .held, omega arith, start .pre .0 .1 .1 .1 .1 .0, omega (arith, start .pre .1, first .ensures .moved, first .kept .0, second .ensures .moved, second .kept .0, third .ensures .moved, third .kept .0))
 
 put-requires-5 : tie.Need-put-requires-5
 put-requires-5 c κs =
-    let fits = c .before .before .before .before .before .before .before .before .before .before .before .before .before .before .before .before .before .before .pre .0 .1 .1 .1 .1 .1 .0 in (
-      c .before .before .before .put4 .ensures .ready,
-      (omega arith, fits, omega (arith, c .before .before .before .before .before .before .before .before .before .before .before .before .before .before .before .before .before .before .pre .1, c .before .before .before .put4 .ensures .moved, c .before .before .before .put4 .kept .0, c .before .before .before .before .before .before .before .put3 .ensures .moved, c .before .before .before .before .before .before .before .put3 .kept .0, c .before .before .before .before .before .before .before .before .before .before .before .put2 .ensures .moved, c .before .before .before .before .before .before .before .before .before .before .before .put2 .kept .0, c .before .before .before .before .before .before .before .before .before .before .before .before .before .before .before .put .ensures .moved, c .before .before .before .before .before .before .before .before .before .before .before .before .before .before .before .put .kept .0)),
-    )
+    let start = c .before .before .before .before .before .before .before .before .before .before .before .before .before .before .before .before .before .before in
+    let first = c .before .before .before .before .before .before .before .before .before .before .before .before .before .before .before .put in
+    let second = c .before .before .before .before .before .before .before .before .before .before .before .put2 in
+    let third = c .before .before .before .before .before .before .before .put3 in
+    let fourth = c .before .before .before .put4 in
+    (fourth .ensures .held, omega arith, start .pre .0 .1 .1 .1 .1 .1 .0, omega (arith, start .pre .1, first .ensures .moved, first .kept .0, second .ensures .moved, second .kept .0, third .ensures .moved, third .kept .0, fourth .ensures .moved, fourth .kept .0))
 
 same-length : tie.Need-same-length
 same-length c = search needs
@@ -35,11 +38,12 @@ same-length c = search needs
 returns : tie.Need-returns
 unfolding packed
 returns c =
-    put-put
-    (put-put
-    (put-put (put-put (c .before .before .before .before .before .before .before .before .before .before .before .before .before .before .before .before .before .before .put .ensures) (c .before .before .before .before .before .before .before .before .before .before .before .before .before .before .put2 .ensures)) (c .before .before .before .before .before .before .before .before .before .before .put3 .ensures))
-    (c .before .before .before .before .before .before .put4 .ensures))
-    (c .before .before .put5 .ensures)
+    let first = c .before .before .before .before .before .before .before .before .before .before .before .before .before .before .before .before .before .before .put .ensures in
+    let second = c .before .before .before .before .before .before .before .before .before .before .before .before .before .before .put2 .ensures in
+    let third = c .before .before .before .before .before .before .before .before .before .before .put3 .ensures in
+    let fourth = c .before .before .before .before .before .before .put4 .ensures in
+    let fifth = c .before .before .put5 .ensures in
+    put-put (put-put (put-put (put-put first second) third) fourth) fifth
 
 pub put-head-spec : {M : Type 1} → statement M
 put-head-spec =

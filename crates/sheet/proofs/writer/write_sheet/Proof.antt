@@ -36,14 +36,14 @@ cast-put-head c = omega (arith, in-range (c .before .before) .few)
 put-head-requires : tie.Need-put-head-requires Inv-loop μ-loop
 put-head-requires c κs =
     let start = c .before .before in
-    ((record { held = omega arith; pending = omega arith }, head-fits _ (in-range start) firstEdition first-holds), omega (arith, start .pre .1))
+    ((omega arith, head-fits _ (in-range start) firstEdition first-holds), omega (arith, start .pre .1))
 
 loop-holds : tie.Need-loop-holds Inv-loop μ-loop
 unfolding entriesAfter
 loop-holds c =
     let start = c .before .before .before .before .before in
     let head = c .before .before .put-head in
-    (omega arith, in-range start .few, head .ensures .moved, omega (arith, start .pre .1, head .kept .0), refl, put-none _ _ (head .ensures .ready))
+    (omega arith, in-range start .few, head .ensures .moved, omega (arith, start .pre .1, head .kept .0), refl, put-none _ _ (head .ensures .held))
 
 mul-distance : tie.Need-mul-distance Inv-loop μ-loop
 mul-distance c = omega arith
@@ -61,7 +61,7 @@ put-entry-requires : tie.Need-put-entry-requires Inv-loop μ-loop
 put-entry-requires c κs =
     let start = c .before .before .before .before .before .before .before .before .before .before in
     let loop = c .before .before .before .before .loop in
-    ((loop .inv .5 .ready, entry-fits _ (in-range start) (loop .i) (omega arith)), omega (arith, loop .inv .5 .moved, loop .inv))
+    ((loop .inv .5 .held, entry-fits _ (in-range start) (loop .i) (omega arith)), omega (arith, loop .inv .5 .moved, loop .inv))
 
 add-i : tie.Need-add-i Inv-loop μ-loop
 add-i c = omega arith
@@ -90,10 +90,8 @@ element-copy-out-last c = omega arith
 
 put-requires : tie.Need-put-requires Inv-loop μ-loop
 put-requires c κs =
-    let loop = c .before .before .before .loop in (
-      loop .inv .5 .ready,
-      (omega arith, distance-fits _ (in-range (c .before .before .before .before .before .before .before .before .before)) _ (omega arith), omega (arith, loop .inv .5 .moved, loop .inv)),
-    )
+    let loop = c .before .before .before .loop in
+    (loop .inv .5 .held, omega arith, distance-fits _ (in-range (c .before .before .before .before .before .before .before .before .before)) _ (omega arith), omega (arith, loop .inv .5 .moved, loop .inv))
 
 byte-count-requires : tie.Need-byte-count-requires Inv-loop μ-loop
 byte-count-requires c κs = omega arith
@@ -110,17 +108,15 @@ sub-put c = omega arith
 put-requires-2 : tie.Need-put-requires-2 Inv-loop μ-loop
 put-requires-2 c κs =
     let loop = c .before .before .before .before .before .before .before .before .before .loop in
-    let last = c .before .before .before .before .before .put in (
-      last .ensures .ready,
-      (omega (arith, loop .inv .1), pow-pos _, omega (arith, last .ensures .moved, last .kept .0, loop .inv .5 .moved, loop .inv)),
-    )
+    let last = c .before .before .before .before .before .put in
+    (last .ensures .held, omega (arith, loop .inv .1), pow-pos _, omega (arith, last .ensures .moved, last .kept .0, loop .inv .5 .moved, loop .inv))
 
 flush-requires : tie.Need-flush-requires Inv-loop μ-loop
 flush-requires c κs =
     let loop = c .before .before .before .before .before .before .before .before .before .before .before .before .before .loop in
     let last = c .before .before .before .before .before .before .before .before .before .put in
     let fill = c .before .before .before .put2 in
-    (fill .ensures .ready, omega (arith, fill .ensures .moved, fill .kept .0, last .ensures .moved, last .kept .0, loop .inv .5 .moved, loop .inv))
+    (fill .ensures .held, omega (arith, fill .ensures .moved, fill .kept .0, last .ensures .moved, last .kept .0, loop .inv .5 .moved, loop .inv))
 
 same-length : tie.Need-same-length Inv-loop μ-loop
 same-length c = c .before .before .flush .kept .0 ∙ c .before .before .before .before .before .before .put2 .kept .0 ∙ c .before .before .before .before .before .before .before .before .before .before .before .before .put .kept .0 ∙ c .before .before .before .before .before .before .before .before .before .before .before .before .before .before .before .before .loop .inv .4 ∙ c .before .before .before .before .before .before .before .before .before .before .before .before .before .before .before .before .before .before .before .put-head .kept .0
