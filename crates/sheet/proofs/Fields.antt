@@ -100,6 +100,14 @@ two-parts s from w w′ h =
     rw (e, ← add-assoc from w w′, ← shr-shr (valueOf s) (8 * length s - (from + w + w′)) w′)
     (sym (mod-pow-add (valueOf s / 2 ^ (8 * length s - (from + w + w′))) w w′))
 
+-- The parts of a field that was read as one.
+module _ (s : List ℕ) (from w w′ : ℕ) (h : from + w + w′ ≤ 8 * length s) where
+  pub first-part : bitsAt s from (w + w′) / 2 ^ w′ ≡ bitsAt s from w
+  first-part = ap (λ (n : ℕ). n / 2 ^ w′) (sym (two-parts s from w w′ h)) ∙ digits-div (bitsAt s from w) (bits-lt s (from + w) w′)
+
+  pub second-part : bitsAt s from (w + w′) % 2 ^ w′ ≡ bitsAt s (from + w) w′
+  second-part = ap (λ (n : ℕ). n % 2 ^ w′) (sym (two-parts s from w w′ h)) ∙ digits-mod (bitsAt s from w) (bits-lt s (from + w) w′)
+
 -- The code's `1 << w`.
 pub power : (bits : ℕ) {w : ℕ} → w < bits → 1 * 2 ^ w % 2 ^ bits ≡ 2 ^ w
 power bits {w} h = shl-exact {a = 1} 1 w bits (omega arith) (omega arith) ∙ one-mul (2 ^ w)

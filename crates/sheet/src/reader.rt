@@ -111,18 +111,17 @@ fn blank_line() -> Line
     }
 }
 
-// The curve whose fields begin at bit `at`.
+// The curve whose fields begin at bit `at`. Side and deflection are taken together.
 fn curve_at(sheet: &[u8], at: usize) -> Curve
     requires { ⌜ (at < 65536) × ((at + 43) / 8 + 4 ≤ length (now sheet)) ⌝ }
     ensures { λ r. ⌜ r ≡ curveFrom (valuesAt (now (sheet .entry)) at curveWidths) ⌝ }
 {
-    let deflection_at = at + SIDE;
-    let radius_at = deflection_at + DEFLECTION;
+    let radius_at = at + SIDE + DEFLECTION;
     let spiral_at = radius_at + RADIUS;
-    let left = bits_at(sheet, at, SIDE) == 1;
+    let turn = bits_at(sheet, at, SIDE + DEFLECTION);
     Curve {
-        left,
-        deflection: bits_at(sheet, deflection_at, DEFLECTION),
+        left: turn >> DEFLECTION == 1,
+        deflection: turn % (1 << DEFLECTION),
         radius: bits_at(sheet, radius_at, RADIUS),
         spiral: bits_at(sheet, spiral_at, SPIRAL),
     }
