@@ -23,7 +23,7 @@ fn word_at(sheet: &[u8], first: usize) -> u32
 }
 
 // The number in the `width` bits from bit `from` on. Four bytes hold a field of up to 25 bits wherever it begins.
-pub fn bits_at(sheet: &[u8], from: usize, width: usize) -> u32
+pub(crate) fn bits_at(sheet: &[u8], from: usize, width: usize) -> u32
     requires { ⌜ (1 ≤ width) × (width ≤ 25) × (from / 8 + 4 ≤ length (now sheet)) ⌝ }
     ensures { λ r. ⌜ r ≡ bitsAt (now (sheet .entry)) from width ⌝ }
 {
@@ -31,7 +31,7 @@ pub fn bits_at(sheet: &[u8], from: usize, width: usize) -> u32
 }
 
 // The same for a field of more than 25 bits, in two parts.
-pub fn long_bits_at(sheet: &[u8], from: usize, width: usize) -> u32
+pub(crate) fn long_bits_at(sheet: &[u8], from: usize, width: usize) -> u32
     requires { ⌜ (26 ≤ width) × (width ≤ 32) × (from < 65536) × ((from + width - 25) / 8 + 4 ≤ length (now sheet)) ⌝ }
     ensures { λ r. ⌜ r ≡ bitsAt (now (sheet .entry)) from width ⌝ }
 {
@@ -41,7 +41,7 @@ pub fn long_bits_at(sheet: &[u8], from: usize, width: usize) -> u32
 }
 
 // The number in the last `width` bits.
-pub fn last_bits(sheet: &[u8], width: usize) -> u32
+pub(crate) fn last_bits(sheet: &[u8], width: usize) -> u32
     requires { ⌜ (width < 8) × (1 ≤ length (now sheet)) ⌝ }
     ensures { λ r. ⌜ r ≡ bitsAt (now (sheet .entry)) (8 * length (now (sheet .entry)) - width) width ⌝ }
 {

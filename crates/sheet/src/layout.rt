@@ -4,26 +4,26 @@ ghost use Prim.Native.Nat.{_<_};
 ghost use Rattle.sheet.specs.Layout.{firstEdition, entryAt, bitCount, byteCount};
 
 // The head.
-pub const EDITION: usize = 4;
+pub(crate) const EDITION: usize = 4;
 
-pub const COUNT: usize = 7;
+pub(crate) const COUNT: usize = 7;
 
-pub const SPEED: usize = 7;
+pub(crate) const SPEED: usize = 7;
 
-pub const CROSSFALL: usize = 4;
+pub(crate) const CROSSFALL: usize = 4;
 
-pub const START: usize = 28;
+pub(crate) const START: usize = 28;
 
 // A distance, and the curve after it.
-pub const DISTANCE: usize = 25;
+pub(crate) const DISTANCE: usize = 25;
 
-pub const SIDE: usize = 1;
+pub(crate) const SIDE: usize = 1;
 
-pub const DEFLECTION: usize = 19;
+pub(crate) const DEFLECTION: usize = 19;
 
-pub const RADIUS: usize = 23;
+pub(crate) const RADIUS: usize = 23;
 
-pub const SPIRAL: usize = 19;
+pub(crate) const SPIRAL: usize = 19;
 
 // The bits of the head, and of a distance with its curve.
 const HEAD: usize = EDITION + COUNT + SPEED + CROSSFALL + START;
@@ -31,7 +31,7 @@ const HEAD: usize = EDITION + COUNT + SPEED + CROSSFALL + START;
 const ENTRY: usize = DISTANCE + SIDE + DEFLECTION + RADIUS + SPIRAL;
 
 // The bit where distance `i` begins; the curve after it follows.
-pub fn entry_at(i: usize) -> usize
+pub(crate) fn entry_at(i: usize) -> usize
     requires { ⌜ i < 128 ⌝ }
     ensures { λ r. ⌜ r ≡ entryAt firstEdition i ⌝ }
 {
@@ -39,7 +39,7 @@ pub fn entry_at(i: usize) -> usize
 }
 
 // How many bits a sheet of `n` curves has before it is filled to a whole byte.
-pub fn bit_count(n: usize) -> usize
+pub(crate) fn bit_count(n: usize) -> usize
     requires { ⌜ n < 128 ⌝ }
     ensures { λ r. ⌜ r ≡ bitCount firstEdition n ⌝ }
 {
@@ -47,7 +47,7 @@ pub fn bit_count(n: usize) -> usize
 }
 
 // How many bytes a sheet of `n` curves has.
-pub fn byte_count(n: usize) -> usize
+pub(crate) fn byte_count(n: usize) -> usize
     requires { ⌜ n < 128 ⌝ }
     ensures { λ r. ⌜ r ≡ byteCount firstEdition n ⌝ }
 {

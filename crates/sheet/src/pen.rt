@@ -7,7 +7,7 @@ ghost use Rattle.sheet.specs.Bits.{bytesOf};
 ghost use Rattle.sheet.specs.Pens.{Put, position};
 
 // How far the bytes are written: `at` of them are stored, and the last `held` bits of `pending`, less than a word, wait.
-pub struct Pen {
+pub(crate) struct Pen {
     pub at: usize,
     pub pending: u64,
     pub held: usize,
@@ -25,7 +25,7 @@ fn store_word(bytes: &mut [u8], at: usize, word: u32)
 }
 
 // One field more, of `width` bits; a whole word is stored.
-pub fn put(bytes: &mut [u8], pen: Pen, width: usize, value: u32) -> Pen
+pub(crate) fn put(bytes: &mut [u8], pen: Pen, width: usize, value: u32) -> Pen
     requires { ⌜ (pen .held < 32) × (width ≤ 32) × (value < 2 ^ width) × (position pen + width ≤ 8 * length (now bytes)) ⌝ }
     ensures { λ r. ⌜ Put (now (bytes .entry)) (now (bytes .exit)) pen r width (λ x. x * 2 ^ width + value) ⌝ }
 {
@@ -45,7 +45,7 @@ pub fn put(bytes: &mut [u8], pen: Pen, width: usize, value: u32) -> Pen
 }
 
 // The whole bytes that wait are stored.
-pub fn flush(bytes: &mut [u8], pen: Pen) -> Pen
+pub(crate) fn flush(bytes: &mut [u8], pen: Pen) -> Pen
     requires { ⌜ (pen .held < 32) × (position pen ≤ 8 * length (now bytes)) ⌝ }
     ensures { λ r. ⌜ Put (now (bytes .entry)) (now (bytes .exit)) pen r 0 (λ x. x) × (r .held < 8) ⌝ }
 {
