@@ -1,6 +1,7 @@
 -- Laws of sheets, and the theorem that reader and writer undo each other (`RoundTrip`).
 pub mod Bytes
 pub mod Fields
+pub mod Words
 pub mod Pens
 pub mod Fitting
 pub mod Frames

@@ -2,7 +2,7 @@
 use native.Mathlib.Omega.{arith}
 use borrow.Author.Needs.{needs}
 use lib.Pow.{pow-pos}
-use Rattle.sheet.proofs.Fields.{word-field, power}
+use Rattle.sheet.proofs.Words.{word-field, power}
 use Rattle.sheet.proofs.bits.bits_at.Statement.{statement}
 use Rattle.sheet.proofs.bits.bits_at.Tie as tie
 

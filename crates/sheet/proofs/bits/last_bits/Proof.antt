@@ -2,7 +2,7 @@
 use native.Mathlib.Omega.{arith}
 use borrow.Author.Needs.{needs}
 use lib.Pow.{pow-pos}
-use Rattle.sheet.proofs.Fields.{last-field, power}
+use Rattle.sheet.proofs.Words.{last-field, power}
 use Rattle.sheet.proofs.bits.last_bits.Statement.{statement}
 use Rattle.sheet.proofs.bits.last_bits.Tie as tie
 

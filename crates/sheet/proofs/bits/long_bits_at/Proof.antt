@@ -6,7 +6,8 @@ use native.Mathlib.Omega.{arith}
 use borrow.Author.Needs.{needs}
 use lib.Pow.{pow-mono}
 use Rattle.sheet.specs.Bits.{bitsAt}
-use Rattle.sheet.proofs.Fields.{bits-lt, two-parts}
+use Rattle.sheet.proofs.Fields.{bits-lt}
+use Rattle.sheet.proofs.Words.{two-parts}
 use Rattle.sheet.proofs.bits.long_bits_at.Statement.{statement}
 use Rattle.sheet.proofs.bits.long_bits_at.Tie as tie
 
