@@ -17,7 +17,7 @@ use Rattle.line.specs.Entries.{cleared}
 use Rattle.line.proofs.InRange.{line-in-range}
 use Rattle.sheet.specs.Bits.{Bytes}
 use Rattle.sheet.specs.Layout.{Edition, firstEdition, Holds, byteCount}
-use Rattle.sheet.specs.Reading.{lineOf, frameOutcome, readOutcome, lineAfter, readLine}
+use Rattle.sheet.specs.Reading.{lineOf, readOutcome, lineAfter, readLine}
 use Rattle.sheet.specs.Writing.{sheetOf, writeOutcome, writeAnswer, writeBytes}
 use Rattle.sheet.proofs.Fitting.{first-holds}
 use Rattle.sheet.proofs.Frames.{framed}
@@ -25,7 +25,7 @@ use Rattle.sheet.proofs.WrittenAgain.{sheet-again}
 use Rattle.sheet.proofs.ReadAgain.{line-again, read-again}
 use Rattle.sheet.specs.declared.reader.ReadAnswer.{ReadAnswer}
 use Rattle.refusals.specs.declared.FillAnswer.{FillAnswer}
-use Rattle.sheet.proofs.WaysOut.{sheet-length, line-decides}
+use Rattle.sheet.proofs.WaysOut.{sheet-length, frame-passes, accepted-line}
 
 -- A line written and read again comes back with its unused entries zero.
 pub write-then-read : (E : Edition) → Holds E → (line : Line) → lineOutcome line ≡ passed
@@ -35,11 +35,6 @@ write-then-read E holds line e =
     let ok = line-in-range line e in
     let read = read-again E holds line ok in
     (read, ap (λ (o : Outcome). lineAfter o (lineOf E (sheetOf E line))) read ∙ line-again E holds line ok)
-
--- Where nothing is refused, 1 to 7 pass.
-frame-passes : (E : Edition) (s : List ℕ) → readOutcome E s ≡ passed → frameOutcome E s ≡ passed
-unfolding readOutcome
-frame-passes E s e = passed-left (frameOutcome E s) _ e
 
 -- A sheet read and written again has the same bytes.
 pub read-then-write : (E : Edition) (s : List ℕ) → Bytes s → readOutcome E s ≡ passed → sheetOf E (readLine E s) ≡ s
@@ -78,12 +73,11 @@ pub read-and-written : (sheet lent bytes : List ℕ) (r : ReadAnswer) (a : FillA
     → fillReplyOf a ≡ writeAnswer firstEdition (r .line) (length lent)
     → bytes ≡ writeBytes firstEdition (r .line) lent
     → (fillReplyOf a ≡ filled (length sheet)) × (bytes ≡ sheet ++ drop (length sheet) lent)
-unfolding writeAnswer writeBytes writeOutcome readLine
+unfolding writeAnswer writeBytes writeOutcome
 read-and-written sheet lent bytes r a ok outcome content accepted room answer memory =
     let E = firstEdition in
     let passes : readOutcome E sheet ≡ passed = sym outcome ∙ accepted in
-    let read : r .line ≡ lineOf E sheet = content ∙ ap (λ (o : Outcome). lineAfter o (lineOf E sheet)) passes in
-    let checked : lineOutcome (r .line) ≡ passed = ap lineOutcome read ∙ line-decides E sheet (frame-passes E sheet passes) ∙ passes in
+    let checked : lineOutcome (r .line) ≡ passed = ap lineOutcome content ∙ accepted-line E sheet passes in
     let again : sheetOf E (r .line) ≡ sheet = ap (sheetOf E) content ∙ read-then-write E sheet ok passes in
     let size : byteCount E (r .line .count) ≡ length sheet = sym (sheet-length E (r .line)) ∙ ap length again in
     let all = filled-whole (lineOutcome (r .line)) (sheetOf E (r .line)) lent _ checked (sheet-length E (r .line)) (omega (arith, size, room)) refl in

@@ -7,7 +7,7 @@ use Rattle.refusals.specs.declared.Refusal.{Refusal}
 use Rattle.refusals.specs.declared.Verdict.{Verdict}
 use Rattle.refusals.specs.declared.Verdict.the-variants.{Pass, Refused}
 use Rattle.refusals.specs.Outcomes.{Outcome, passed, outcomeOf}
-use Rattle.refusals.proofs.Joining.{refused-first}
+use Rattle.refusals.proofs.Joining.{passed-left, refused-first}
 use Rattle.line.specs.declared.Line.{Line}
 use Rattle.line.specs.Checks.{lineOutcome}
 use Rattle.sheet.specs.Layout.{Edition, byteCount}
@@ -40,6 +40,15 @@ module _ (E : Edition) (s : List ℕ) where
   pub line-checked : (f : Verdict) {o : Outcome} {line : Line} → outcomeOf f ≡ frameOutcome E s → f ≡ Pass → line ≡ lineOf E s
       → o ≡ lineOutcome line → o ≡ readOutcome E s
   line-checked f h e l c = c ∙ ap lineOutcome l ∙ line-decides (sym h ∙ ap outcomeOf e)
+
+  -- Where nothing is refused, 1 to 7 pass, and so does the line that is read.
+  pub frame-passes : readOutcome E s ≡ passed → frameOutcome E s ≡ passed
+  unfolding readOutcome
+  frame-passes e = passed-left (frameOutcome E s) _ e
+
+  pub accepted-line : readOutcome E s ≡ passed → lineOutcome (readLine E s) ≡ passed
+  unfolding readLine
+  accepted-line e = ap (λ (o : Outcome). lineOutcome (lineAfter o (lineOf E s))) e ∙ line-decides (frame-passes e) ∙ e
 
 -- ---- the writer
 
