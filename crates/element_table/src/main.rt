@@ -9,15 +9,11 @@ use decimal_text::new_line;
 use decimal_text::read_byte;
 use elements::ElementAnswer;
 use elements::Elements;
-use libc::STDIN_FILENO;
+use input::Next;
+use input::new_input;
+use input::next_byte;
 use printing::print_number;
 use printing::print_refusal;
-
-// What one read of the input came to.
-struct Chunk {
-    reading: Reading,
-    ended: bool,
-}
 
 fn print_elements(e: Elements) {
     print_number(e.x, b" ");
@@ -49,42 +45,20 @@ fn take_byte(reading: Reading, byte: u8, numbers: &mut [u32]) -> Reading
     read_byte(reading, byte, numbers)
 }
 
-fn take_bytes(before: Reading, bytes: &[u8], numbers: &mut [u32]) -> Reading
-    requires { ⌜ 3 ≤ length (now numbers) ⌝ }
-{
-    let mut reading = before;
-    let mut i = 0;
-    while i < bytes.len() {
-        reading = take_byte(reading, bytes[i], &mut *numbers);
-        i += 1;
-    }
-    reading
-}
-
-fn take_chunk(before: Reading, numbers: &mut [u32]) -> Chunk
-    requires { ⌜ 3 ≤ length (now numbers) ⌝ }
-{
-    let mut buffer = io::large_buffer();
-    let n = io::read_full(STDIN_FILENO, &mut buffer);
-    let reading = take_bytes(before, &buffer[..n], numbers);
-    Chunk {
-        reading,
-        ended: n == 0,
-    }
-}
-
 // A proved loop has to end, so it counts its turns down from a number that no run uses up.
 fn take_all(numbers: &mut [u32]) -> Reading
     requires { ⌜ 3 ≤ length (now numbers) ⌝ }
 {
     let mut reading = new_line(&mut *numbers);
+    let mut buffer = io::large_buffer();
+    let mut input = new_input();
     let mut turns = u64::MAX;
     while turns > 0 {
-        let chunk = take_chunk(reading, &mut *numbers);
-        reading = chunk.reading;
-        if chunk.ended {
+        let Next::Byte(byte, rest) = next_byte(input, &mut buffer) else {
             return reading;
-        }
+        };
+        reading = take_byte(reading, byte, &mut *numbers);
+        input = rest;
         turns -= 1;
     }
     reading

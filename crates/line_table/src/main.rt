@@ -8,19 +8,15 @@ ghost use lib.ListN.{length};
 use hex_text::Digits;
 use hex_text::new_bytes;
 use hex_text::read_digit;
-use libc::STDIN_FILENO;
+use input::Next;
+use input::new_input;
+use input::next_byte;
 use libc::STDOUT_FILENO;
 use line::Curve;
 use line::Line;
 use printing::print_number;
 use printing::print_refusal;
 use refusals::Verdict;
-
-// What one read of the input came to.
-struct Chunk {
-    digits: Digits,
-    ended: bool,
-}
 
 // Whether a curve and the distance after it are zero.
 fn is_zero(curve: Curve, distance: u32) -> bool {
@@ -103,44 +99,20 @@ fn take_byte(digits: Digits, byte: u8, bytes: &mut [u8]) -> Digits
     read_digit(digits, byte, bytes)
 }
 
-fn take_bytes(before: Digits, text: &[u8], bytes: &mut [u8]) -> Digits
-    requires { ⌜ before .count ≤ length (now bytes) ⌝ }
-    ensures { λ r. ⌜ r .count ≤ length (now (bytes .entry)) ⌝ }
-{
-    let mut digits = before;
-    let mut i = 0;
-    while i < text.len() {
-        digits = take_byte(digits, text[i], &mut *bytes);
-        i += 1;
-    }
-    digits
-}
-
-fn take_chunk(before: Digits, bytes: &mut [u8]) -> Chunk
-    requires { ⌜ before .count ≤ length (now bytes) ⌝ }
-    ensures { λ r. ⌜ r .digits .count ≤ length (now (bytes .entry)) ⌝ }
-{
-    let mut buffer = io::large_buffer();
-    let n = io::read_full(STDIN_FILENO, &mut buffer);
-    let digits = take_bytes(before, &buffer[..n], bytes);
-    Chunk {
-        digits,
-        ended: n == 0,
-    }
-}
-
 // A proved loop has to end, so it counts its turns down from a number that no run uses up.
 fn take_all(bytes: &mut [u8]) -> Digits
     ensures { λ r. ⌜ r .count ≤ length (now (bytes .entry)) ⌝ }
 {
     let mut digits = new_bytes();
+    let mut buffer = io::large_buffer();
+    let mut input = new_input();
     let mut turns = u64::MAX;
     while turns > 0 {
-        let chunk = take_chunk(digits, &mut *bytes);
-        digits = chunk.digits;
-        if chunk.ended {
+        let Next::Byte(byte, rest) = next_byte(input, &mut buffer) else {
             return digits;
-        }
+        };
+        digits = take_byte(digits, byte, &mut *bytes);
+        input = rest;
         turns -= 1;
     }
     digits

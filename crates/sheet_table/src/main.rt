@@ -8,7 +8,9 @@ ghost use lib.ListN.{length};
 use decimal_text::Reading;
 use decimal_text::new_line;
 use decimal_text::read_byte;
-use libc::STDIN_FILENO;
+use input::Next;
+use input::new_input;
+use input::next_byte;
 use libc::STDOUT_FILENO;
 use line::Line;
 use line_text::line_of;
@@ -16,12 +18,6 @@ use printing::print_answer;
 
 // The numbers of a line of text: the room, and 325 for the line.
 const NUMBERS: usize = 326;
-
-// What one read of the input came to.
-struct Chunk {
-    reading: Reading,
-    ended: bool,
-}
 
 fn print_bytes(bytes: &[u8]) {
     let mut i = 0;
@@ -75,42 +71,20 @@ fn take_byte(reading: Reading, byte: u8, numbers: &mut [u32]) -> Reading
     read_byte(reading, byte, numbers)
 }
 
-fn take_bytes(before: Reading, bytes: &[u8], numbers: &mut [u32]) -> Reading
-    requires { ⌜ 0 < length (now numbers) ⌝ }
-{
-    let mut reading = before;
-    let mut i = 0;
-    while i < bytes.len() {
-        reading = take_byte(reading, bytes[i], &mut *numbers);
-        i += 1;
-    }
-    reading
-}
-
-fn take_chunk(before: Reading, numbers: &mut [u32]) -> Chunk
-    requires { ⌜ 0 < length (now numbers) ⌝ }
-{
-    let mut buffer = io::large_buffer();
-    let n = io::read_full(STDIN_FILENO, &mut buffer);
-    let reading = take_bytes(before, &buffer[..n], numbers);
-    Chunk {
-        reading,
-        ended: n == 0,
-    }
-}
-
 // A proved loop has to end, so it counts its turns down from a number that no run uses up.
 fn take_all(numbers: &mut [u32]) -> Reading
     requires { ⌜ 0 < length (now numbers) ⌝ }
 {
     let mut reading = new_line(&mut *numbers);
+    let mut buffer = io::large_buffer();
+    let mut input = new_input();
     let mut turns = u64::MAX;
     while turns > 0 {
-        let chunk = take_chunk(reading, &mut *numbers);
-        reading = chunk.reading;
-        if chunk.ended {
+        let Next::Byte(byte, rest) = next_byte(input, &mut buffer) else {
             return reading;
-        }
+        };
+        reading = take_byte(reading, byte, &mut *numbers);
+        input = rest;
         turns -= 1;
     }
     reading

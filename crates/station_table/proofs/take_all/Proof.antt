@@ -6,25 +6,43 @@ use Rattle.station_table.proofs.take_all.Statement.{statement}
 use Rattle.station_table.proofs.take_all.Tie as tie
 
 abbrev Inv-loop : tie.InvT-loop
-Inv-loop numbers₀ reading₀ turns₀ numbers reading turns = (length numbers ≡ length numbers₀)
+Inv-loop numbers₀ reading₀ buffer₀ input₀ turns₀ numbers reading buffer input turns = (length numbers ≡ length numbers₀) × (length buffer ≡ 65536)
 
 abbrev μ-loop : tie.MeasureT-loop
-μ-loop numbers₀ reading₀ turns₀ numbers reading turns = turns
+μ-loop numbers₀ reading₀ buffer₀ input₀ turns₀ numbers reading buffer input turns = turns
 
 new-line-requires : tie.Need-new-line-requires Inv-loop μ-loop
 new-line-requires c κs = search needs
 
+large-buffer-requires : tie.Need-large-buffer-requires Inv-loop μ-loop
+large-buffer-requires c κs = search needs
+
+new-input-requires : tie.Need-new-input-requires Inv-loop μ-loop
+new-input-requires c κs = search needs
+
 loop-holds : tie.Need-loop-holds Inv-loop μ-loop
 loop-holds c = search needs
 
-take-chunk-requires : tie.Need-take-chunk-requires Inv-loop μ-loop
-take-chunk-requires c κs = search needs
+slice-aggregate-next-byte : tie.Need-slice-aggregate-next-byte Inv-loop μ-loop
+slice-aggregate-next-byte c = search needs
+
+next-byte-requires : tie.Need-next-byte-requires Inv-loop μ-loop
+next-byte-requires c κs = search needs
+
+enum-known-byte : tie.Need-enum-known-byte Inv-loop μ-loop
+enum-known-byte c = search needs
+
+enum-told : tie.Need-enum-told Inv-loop μ-loop
+enum-told c = search needs
 
 same-length : tie.Need-same-length Inv-loop μ-loop
 same-length c = search needs
 
 returns : tie.Need-returns Inv-loop μ-loop
 returns c = search needs
+
+take-byte-requires : tie.Need-take-byte-requires Inv-loop μ-loop
+take-byte-requires c κs = search needs
 
 sub-turns : tie.Need-sub-turns Inv-loop μ-loop
 sub-turns c = search needs
@@ -48,10 +66,16 @@ take-all-spec =
     Inv-loop
     μ-loop
     new-line-requires
+    large-buffer-requires
+    new-input-requires
     loop-holds
-    take-chunk-requires
+    slice-aggregate-next-byte
+    next-byte-requires
+    enum-known-byte
+    enum-told
     same-length
     returns
+    take-byte-requires
     sub-turns
     loop-less
     loop-again
