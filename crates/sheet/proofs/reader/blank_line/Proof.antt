@@ -1,0 +1,10 @@
+-- `blank_line` meets its contract.
+use mathlib.Core.Path.{refl}
+use Rattle.sheet.proofs.reader.blank_line.Statement.{statement}
+use Rattle.sheet.proofs.reader.blank_line.Tie as tie
+
+returns : tie.Need-returns
+returns c = refl
+
+pub blank-line-spec : {M : Type 1} → statement M
+blank-line-spec = tie.close (tie.spec returns)
