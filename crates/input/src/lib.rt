@@ -1,5 +1,7 @@
 // Standard input, one byte after the other, by way of a buffer that the caller lends.
 ghost use mathlib.Core.Path.{_≡_};
+ghost use mathlib.Core.Bool.{true};
+ghost use Rattle.input.specs.Held.{nothingRead, holds, heldByte};
 use libc::STDIN_FILENO;
 
 // Which bytes of the buffer are read and not yet taken: those from `at` up to `end`.
@@ -16,13 +18,15 @@ pub enum Next {
 
 // Nothing is read yet.
 pub fn new_input() -> Input
-    ensures { λ r. ⌜ r ≡ record { at = 0; end = 0 } ⌝ }
+    ensures { λ r. ⌜ r ≡ nothingRead ⌝ }
 {
     Input { at: 0, end: 0 }
 }
 
 // The next of the bytes that the buffer holds.
-fn held_byte(input: Input, buffer: &[u8]) -> Next {
+fn held_byte(input: Input, buffer: &[u8]) -> Next
+    ensures { λ r. ⌜ r ≡ heldByte input (now (buffer .entry)) ⌝ }
+{
     let at = input.at;
     let end = input.end;
     if at < end {
@@ -33,8 +37,11 @@ fn held_byte(input: Input, buffer: &[u8]) -> Next {
     Next::End
 }
 
-// The next byte of standard input. A buffer that is used up is filled again. An empty one gives the end, as a failed read does.
-pub fn next_byte(input: Input, buffer: &mut [u8]) -> Next {
+// The next byte of standard input. A byte that the buffer holds comes next, and the buffer stays as it is; one that is used up
+// is filled again. An empty buffer gives the end, as a failed read does.
+pub fn next_byte(input: Input, buffer: &mut [u8]) -> Next
+    ensures { λ r. ⌜ (holds input (now (buffer .entry)) ≡ true → (r ≡ heldByte input (now (buffer .entry))) × (now (buffer .exit) ≡ now (buffer .entry))) ⌝ }
+{
     let held = held_byte(input, &*buffer);
     match held {
         Next::Byte(_, _) => held,

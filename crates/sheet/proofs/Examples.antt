@@ -2,7 +2,8 @@
 use mathlib.Core.Path.{_≡_, refl}
 use mathlib.Core.Bool.{true}
 use mathlib.Core.List.{List, [], _∷_, _++_}
-use Prim.Native.Nat.{ℕ}
+use Prim.Native.Nat.{ℕ, _+_, _*_}
+use native.Mathlib.Omega.{arith}
 use lib.ListN.{length, replicate}
 use Rattle.refusals.specs.Outcomes.{passed, refused}
 use Rattle.refusals.specs.Filling.{filled, unfilled}
@@ -11,7 +12,7 @@ use Rattle.line.specs.declared.Line.{Line}
 use Rattle.line.specs.Checks.{startOutcome, headOutcome, distanceOutcome, blankCurve, curveOutcome, bodyOutcome, lineOutcome}
 use Rattle.line.specs.Entries.{entries, blankLine}
 use Rattle.sheet.specs.Bits.{valueOf, bytesOf, bitsAt, valuesAt, packed}
-use Rattle.sheet.specs.Layout.{firstEdition, byteCount}
+use Rattle.sheet.specs.Layout.{firstEdition, bitCount, byteCount}
 use Rattle.sheet.specs.Reading.{headOf, distanceOf, curveOf, lineOf, sizeOutcome, frameOutcome, readOutcome, readLine}
 use Rattle.sheet.specs.Writing.{entriesAfter, numberTo, sheetNumber, sheetOf, writeOutcome, writeAnswer, writeBytes}
 
@@ -58,6 +59,10 @@ crossfall13 = 0x18 ∷ 0x0A ∷ 0x37 ∷ 0xFF ∷ 0xFF ∷ 0xFF ∷ 0xC0 ∷ []
 
 abbrev lateStart : List ℕ
 lateStart = 0x10 ∷ 0x31 ∷ 0xA3 ∷ 0xFF ∷ 0xFF ∷ 0xFF ∷ 0xC0 ∷ []
+
+-- "The sheet has 75 + 87 × n bits."
+pub bits-of-sheet : (n : ℕ) → bitCount firstEdition n ≡ 75 + 87 * n
+bits-of-sheet n = omega arith
 
 pub record Examples : Type 0 where
   pub case-9-read : readOutcome firstEdition sheet9 ≡ passed

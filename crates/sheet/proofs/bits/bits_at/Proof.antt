@@ -1,4 +1,4 @@
--- `bits_at` meets its contract.
+-- `bits_at` meets its contract. Assumes nothing.
 use native.Mathlib.Omega.{arith}
 use borrow.Author.Needs.{needs}
 use lib.Pow.{pow-pos}

@@ -1,4 +1,4 @@
--- `last_bits` meets its contract.
+-- `last_bits` meets its contract. Assumes nothing.
 use native.Mathlib.Omega.{arith}
 use borrow.Author.Needs.{needs}
 use lib.Pow.{pow-pos}

@@ -1,4 +1,4 @@
--- `long_bits_at` meets its contract.
+-- `long_bits_at` meets its contract. Assumes nothing.
 use mathlib.Core.Path.{_≡_, _∙_, ap}
 use Prim.Native.Nat.{ℕ, _+_, _-_, _*_, _<_}
 use native.Mathlib.Nat.{lt-of-lt-of-le}

@@ -1,4 +1,4 @@
--- `word_at` meets its contract.
+-- `word_at` meets its contract. Assumes nothing.
 use borrow.Author.Needs.{needs}
 use Rattle.sheet.proofs.Bytes.{four-more}
 use Rattle.sheet.proofs.bits.word_at.Statement.{statement}

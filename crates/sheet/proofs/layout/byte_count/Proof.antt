@@ -1,4 +1,4 @@
--- `byte_count` meets its contract.
+-- `byte_count` meets its contract. Assumes nothing.
 use native.Mathlib.Omega.{arith}
 use borrow.Author.Needs.{needs}
 use Rattle.sheet.proofs.layout.byte_count.Statement.{statement}

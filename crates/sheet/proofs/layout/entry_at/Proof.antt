@@ -1,4 +1,4 @@
--- `entry_at` meets its contract.
+-- `entry_at` meets its contract. Assumes nothing.
 use native.Mathlib.Omega.{arith}
 use borrow.Author.Needs.{needs}
 use Rattle.sheet.proofs.layout.entry_at.Statement.{statement}

@@ -1,4 +1,4 @@
--- `flush` meets its contract: the loop keeps the number written, and the bytes from `at` on are as they were.
+-- `flush` meets its contract: the loop keeps the number written, and the bytes from `at` on are as they were. Assumes nothing.
 use mathlib.Core.Path.{_≡_, refl, _∙_}
 use Prim.Native.Nat.{_+_, _*_, _%_, _^_, _≤_, _<_}
 use native.Mathlib.Omega.{arith}

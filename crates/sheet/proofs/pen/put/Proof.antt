@@ -1,4 +1,4 @@
--- `put` meets its contract: the field waits, or fills a word that is stored.
+-- `put` meets its contract: the field waits, or fills a word that is stored. Assumes nothing.
 use native.Mathlib.Omega.{arith}
 use borrow.Author.Needs.{needs}
 use Rattle.sheet.proofs.Pens.{joined-lt, field-waits, field-stored}

@@ -1,4 +1,4 @@
--- `store_word` meets its contract.
+-- `store_word` meets its contract. Assumes nothing.
 use mathlib.Core.Path.{_∙_, ap}
 use mathlib.Core.List.{List, _++_}
 use Prim.Native.Nat.{ℕ, _+_}

@@ -1,4 +1,4 @@
--- `blank_line` meets its contract.
+-- `blank_line` meets its contract. Assumes nothing.
 use mathlib.Core.Path.{refl}
 use Rattle.sheet.proofs.reader.blank_line.Statement.{statement}
 use Rattle.sheet.proofs.reader.blank_line.Tie as tie

@@ -1,4 +1,4 @@
--- `check_frame` meets its contract.
+-- `check_frame` meets its contract. Assumes nothing.
 use mathlib.Core.Path.{_∙_, ap}
 use borrow.Author.Needs.{needs}
 use Rattle.refusals.specs.Outcomes.{Outcome, outcomeOf, _▹_}

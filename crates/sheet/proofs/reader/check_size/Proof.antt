@@ -1,4 +1,4 @@
--- `check_size` meets its contract.
+-- `check_size` meets its contract. Assumes nothing.
 use native.Mathlib.Omega.{arith}
 use borrow.Author.Needs.{needs}
 use Rattle.sheet.specs.Layout.{firstEdition}

@@ -1,4 +1,4 @@
--- `read` meets its contract.
+-- `read` meets its contract. Assumes nothing.
 use mathlib.Core.Path.{refl, sym, _∙_, ap}
 use borrow.Author.Needs.{needs}
 use Rattle.refusals.specs.declared.Verdict.the-variants.{Refused}

@@ -1,4 +1,4 @@
--- `read_head` meets its contract.
+-- `read_head` meets its contract. Assumes nothing.
 use borrow.Author.Needs.{needs}
 use Rattle.sheet.specs.Bits.{valuesAt}
 use Rattle.sheet.specs.Reading.{headOf}

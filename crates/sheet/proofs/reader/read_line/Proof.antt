@@ -1,4 +1,4 @@
--- `read_line` meets its contract: after i turns the first i distances and curves are filled in.
+-- `read_line` meets its contract: after i turns the first i distances and curves are filled in. Assumes nothing.
 use mathlib.Core.Path.{_≡_, _∙_, ap}
 use Prim.Native.Nat.{ℕ, _-_, _*_, _≤_}
 use native.Mathlib.Omega.{arith}

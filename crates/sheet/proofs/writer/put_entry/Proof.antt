@@ -1,4 +1,4 @@
--- `put_entry` meets its contract.
+-- `put_entry` meets its contract. Assumes nothing.
 use mathlib.Core.Path.{refl, ap}
 use mathlib.Core.List.{[], _∷_}
 use Prim.Native.Nat.{ℕ}

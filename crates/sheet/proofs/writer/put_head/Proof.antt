@@ -1,4 +1,4 @@
--- `put_head` meets its contract.
+-- `put_head` meets its contract. Assumes nothing.
 use native.Mathlib.Omega.{arith}
 use borrow.Author.Needs.{needs}
 use Rattle.sheet.specs.Bits.{packed}

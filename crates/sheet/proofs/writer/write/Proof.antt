@@ -1,4 +1,4 @@
--- `write` meets its contract.
+-- `write` meets its contract. Assumes nothing.
 use mathlib.Core.Path.{sym, _∙_, ap}
 use native.Mathlib.Omega.{arith}
 use borrow.Author.Needs.{needs}

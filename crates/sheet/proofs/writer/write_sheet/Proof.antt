@@ -1,4 +1,4 @@
--- `write_sheet` meets its contract: after i turns the head and the first i entries are written.
+-- `write_sheet` meets its contract: after i turns the head and the first i entries are written. Assumes nothing.
 use mathlib.Core.Path.{_≡_, refl, _∙_}
 use Prim.Native.Nat.{_-_, _*_, _≤_}
 use native.Mathlib.Omega.{arith}

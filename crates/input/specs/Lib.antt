@@ -1,0 +1,2 @@
+-- What the contracts of `input` cite.
+pub mod Held
