@@ -1,0 +1,116 @@
+-- `put_name` meets its contract. Assumes nothing.
+use mathlib.Core.Path.{_≡_, sym, _∙_, ap}
+use Prim.Native.Nat.{ℕ, _+_, _%_, _≤_}
+use native.Mathlib.Omega.{arith}
+use borrow.Author.Needs.{needs}
+use lib.ListN.{length}
+use Rattle.report.specs.Numbers.{ascii}
+use Rattle.report.specs.Text.{pointName, nameAt}
+use Rattle.report.proofs.Names.{name-length, end-name, point-name}
+use Rattle.report.proofs.Pieces.{wrote-as}
+use Rattle.report.proofs.list.put_name.Statement.{statement}
+use Rattle.report.proofs.list.put_name.Tie as tie
+
+-- A name of two letters has room.
+two-letters : (count i at size : ℕ) → (i + 1 ≡ count → ⊥) → at + length (nameAt count i) ≤ size → at + 2 ≤ size
+two-letters count i at size n h = omega (arith, h, ap length (point-name count i n), name-length (i % 4))
+
+add-if1 : tie.Need-add-if1
+add-if1 c = search needs
+
+slice-aggregate-put : tie.Need-slice-aggregate-put
+slice-aggregate-put c = search needs
+
+put-requires : tie.Need-put-requires
+unfolding ascii
+put-requires c κs =
+    let start = c .before .before .before .before in
+    omega (arith, start .pre .1, ap length (end-name (start .args .count) (start .args .i) (c .before .before .if1 .taken)))
+
+same-length : tie.Need-same-length
+same-length c = search needs
+
+returns : tie.Need-returns
+unfolding ascii
+returns c = wrote-as (c .before .before .put .ensures) (sym (end-name _ _ (c .before .before .before .before .before .if1 .taken)))
+
+slice-aggregate-put-2 : tie.Need-slice-aggregate-put-2
+slice-aggregate-put-2 c = search needs
+
+put-requires-2 : tie.Need-put-requires-2
+put-requires-2 c κs = two-letters _ _ _ _ (c .before .before .before .if1 .left) (c .before .before .before .before .before .pre .1)
+
+slice-aggregate-put-3 : tie.Need-slice-aggregate-put-3
+slice-aggregate-put-3 c = search needs
+
+put-requires-3 : tie.Need-put-requires-3
+put-requires-3 c κs = two-letters _ _ _ _ (c .before .before .before .if1 .left) (c .before .before .before .before .before .pre .1)
+
+slice-aggregate-put-4 : tie.Need-slice-aggregate-put-4
+slice-aggregate-put-4 c = search needs
+
+put-requires-4 : tie.Need-put-requires-4
+put-requires-4 c κs = two-letters _ _ _ _ (c .before .before .before .if1 .left) (c .before .before .before .before .before .pre .1)
+
+slice-aggregate-put-5 : tie.Need-slice-aggregate-put-5
+slice-aggregate-put-5 c = search needs
+
+put-requires-5 : tie.Need-put-requires-5
+put-requires-5 c κs = two-letters _ _ _ _ (c .before .before .before .if1 .left) (c .before .before .before .before .before .pre .1)
+
+same-length-2 : tie.Need-same-length-2
+same-length-2 c = search needs
+
+returns-2 : tie.Need-returns-2
+unfolding pointName ascii
+returns-2 c = wrote-as (c .before .before .put2 .ensures) (sym (point-name _ _ (c .before .before .before .before .before .before .if1 .left) ∙ ap pointName (c .before .before .before .before .before .match .keys1)))
+
+same-length-3 : tie.Need-same-length-3
+same-length-3 c = search needs
+
+returns-3 : tie.Need-returns-3
+unfolding pointName ascii
+returns-3 c = wrote-as (c .before .before .put3 .ensures) (sym (point-name _ _ (c .before .before .before .before .before .before .if1 .left) ∙ ap pointName (c .before .before .before .before .before .match .keys2)))
+
+same-length-4 : tie.Need-same-length-4
+same-length-4 c = search needs
+
+returns-4 : tie.Need-returns-4
+unfolding pointName ascii
+returns-4 c = wrote-as (c .before .before .put4 .ensures) (sym (point-name _ _ (c .before .before .before .before .before .before .if1 .left) ∙ ap pointName (c .before .before .before .before .before .match .keys3)))
+
+same-length-5 : tie.Need-same-length-5
+same-length-5 c = search needs
+
+returns-5 : tie.Need-returns-5
+unfolding pointName ascii
+returns-5 c =
+    let rest = c .before .before .before .before .before .match .rest in
+    let turn : c .before .before .before .before .before .before .before .before .args .i % 4 ≡ 3 = omega (arith, rest .1, rest .0 .1, rest .0 .0 .1) in
+    wrote-as (c .before .before .put5 .ensures) (sym (point-name _ _ (c .before .before .before .before .before .before .if1 .left) ∙ ap pointName turn))
+
+pub put-name-spec : {M : Type 1} → statement M
+put-name-spec =
+    tie.close
+    (tie.spec
+    add-if1
+    slice-aggregate-put
+    put-requires
+    same-length
+    returns
+    slice-aggregate-put-2
+    put-requires-2
+    slice-aggregate-put-3
+    put-requires-3
+    slice-aggregate-put-4
+    put-requires-4
+    slice-aggregate-put-5
+    put-requires-5
+    same-length-2
+    returns-2
+    same-length-3
+    returns-3
+    same-length-4
+    returns-4
+    same-length-5
+    returns-5)

@@ -1,0 +1,4 @@
+-- What the contracts of `report` cite.
+pub mod Numbers
+pub mod Text
+pub mod Pieces

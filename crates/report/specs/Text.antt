@@ -1,0 +1,61 @@
+-- Document 01's "The station program": the text of an answer, in ASCII codes.
+use mathlib.Core.Bool.{cond}
+use mathlib.Core.List.{List, [], _∷_, _++_}
+use Prim.Native.Nat.{ℕ, zero, suc, _/_, _%_}
+use lib.Dec.{eqb, leb}
+use lib.ListN.{length, getD}
+use Rattle.refusals.specs.Outcomes.{Outcome, need}
+use Rattle.refusals.specs.Filling.{FillReply, countAfter, bufferAfter}
+use Rattle.report.specs.Numbers.{ascii, decimal, metres}
+
+-- Three words, "one space between", and the end of the line.
+unfoldable pub words : List ℕ → List ℕ → List ℕ → List ℕ
+words a b c = a ++ ascii " " ++ b ++ ascii " " ++ c ++ ascii "\n"
+
+-- The heading.
+unfoldable pub heading : List ℕ
+heading = words (ascii "POINT") (ascii "CURVE") (ascii "STATION")
+
+-- The names of a curve's points in their order.
+unfoldable pub pointName : ℕ → List ℕ
+pointName zero = ascii "TS"
+pointName (suc zero) = ascii "SC"
+pointName (suc (suc zero)) = ascii "CS"
+pointName (suc (suc (suc turn))) = ascii "ST"
+
+-- The name of number i of a row of `count` numbers: "TS, SC, CS, ST of each curve in order, then the end"
+unfoldable pub nameAt : (count i : ℕ) → List ℕ
+nameAt count i = cond (eqb (suc i) count) (ascii "END") (pointName (i % 4))
+
+-- Its curve; "The end has curve 0."
+unfoldable pub curveAt : (count i : ℕ) → ℕ
+curveAt count i = cond (eqb (suc i) count) 0 (suc (i / 4))
+
+-- Its line: "point name, curve number and station in metres"
+unfoldable pub lineAt : List ℕ → ℕ → List ℕ
+lineAt row i = words (nameAt (length row) i) (decimal (curveAt (length row) i)) (metres (getD row i 0))
+
+-- The lines of the first i numbers.
+unfoldable pub linesTo : List ℕ → ℕ → List ℕ
+linesTo row zero = []
+linesTo row (suc i) = linesTo row i ++ lineAt row i
+
+-- "the heading, then ..": the text of a row of stations
+unfoldable pub stationList : List ℕ → List ℕ
+stationList row = heading ++ linesTo row (length row)
+
+-- "`REFUSED`, number, place, one space between"
+unfoldable pub refusalLine : (number place : ℕ) → List ℕ
+refusalLine number place = words (ascii "REFUSED") (decimal number) (decimal place)
+
+-- 16: "lent bytes .. too few"
+unfoldable pub textOutcome : List ℕ → ℕ → Outcome
+textOutcome text room = need (leb (length text) room) 16 0
+
+-- What is answered for a text and `room` lent bytes: the text's length, or the refusal.
+unfoldable pub textAnswer : List ℕ → ℕ → FillReply
+textAnswer text room = countAfter (textOutcome text room) (length text)
+
+-- What the lent bytes then hold: the text at the front and the rest untouched; after a refusal, what they held.
+unfoldable pub textBytes : List ℕ → List ℕ → List ℕ
+textBytes text bytes = bufferAfter (textOutcome text (length bytes)) text bytes
