@@ -1,0 +1,2 @@
+-- The laws of `station_report`.
+pub mod Texts

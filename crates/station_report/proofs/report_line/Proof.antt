@@ -1,0 +1,81 @@
+-- `report_line` meets its contract. Assumes nothing.
+use mathlib.Core.Path.{_≡_, sym, _∙_, ap, subst}
+use mathlib.Core.List.{List}
+use Prim.Native.Nat.{ℕ, _≤_}
+use borrow.Author.Needs.{needs}
+use lib.ListN.{length, take, replicate, length-replicate}
+use lib.Seq.{length-take-le}
+use Rattle.refusals.specs.Filling.{fillReplyOf}
+use Rattle.report.specs.Text.{stationList}
+use Rattle.station_report.proofs.Texts.{same-text, refused-text, counted-within, counted-text}
+use Rattle.station_report.proofs.report_line.Statement.{statement}
+use Rattle.station_report.proofs.report_line.Tie as tie
+
+slice-aggregate-stations : tie.Need-slice-aggregate-stations
+slice-aggregate-stations c = search needs
+
+stations-requires : tie.Need-stations-requires
+stations-requires c κs = search needs
+
+enum-known-answer : tie.Need-enum-known-answer
+enum-known-answer c = search needs
+
+array-share-prefix-row : tie.Need-array-share-prefix-row
+array-share-prefix-row c =
+    let called = c .before .before .before .before .stations in
+    let told = c .before .answer .given in
+    let count = sym (called .ensures .0) ∙ ap fillReplyOf (told .1) in
+    subst (λ (n : ℕ). told .0 .0 ≤ n) (sym (called .kept .1 .0)) (counted-within (c .before .before .before .before .before .before .before .args .line) (replicate 257 0) count)
+
+slice-aggregate-station-list : tie.Need-slice-aggregate-station-list
+slice-aggregate-station-list c =
+    let called = c .before .before .before .before .before .stations in
+    let told = c .before .before .answer .given in
+    let count = sym (called .ensures .0) ∙ ap fillReplyOf (told .1) in
+    sym (length-take-le (told .0 .0) (called .last .1 .0) (subst (λ (n : ℕ). told .0 .0 ≤ n) (sym (called .kept .1 .0)) (counted-within (c .before .before .before .before .before .before .before .before .args .line) (replicate 257 0) count)))
+
+station-list-requires : tie.Need-station-list-requires
+station-list-requires c κs = search needs
+
+enum-known-answer-2 : tie.Need-enum-known-answer-2
+enum-known-answer-2 c = search needs
+
+refusal-line-requires : tie.Need-refusal-line-requires
+refusal-line-requires c κs = search needs
+
+same-length : tie.Need-same-length
+same-length c = search needs
+
+returns : tie.Need-returns
+returns c =
+    let called = c .before .before .before .before .before .before .before .before .before .stations in
+    let told = c .before .before .before .before .before .before .answer .given in
+    let count = sym (called .ensures .0) ∙ ap fillReplyOf (told .1) in
+    let text = counted-text (c .before .before .before .before .before .before .before .before .before .before .before .before .args .line) (replicate 257 0) count ∙ ap (λ (row : List ℕ). stationList (take (told .0 .0) row)) (sym (called .ensures .1)) in
+    same-text (c .before .before .before .before .before .before .before .before .before .before .before .before .args .text .now) text (c .before .before .station-list .ensures)
+
+same-length-2 : tie.Need-same-length-2
+same-length-2 c = search needs
+
+returns-2 : tie.Need-returns-2
+returns-2 c =
+    let wide : length (replicate {A = ℕ} 257 0) ≡ 257 = length-replicate {A = ℕ} 257 0 in
+    let refusal = sym (c .before .before .before .before .before .before .before .before .stations .ensures .0) ∙ ap fillReplyOf (c .before .before .before .before .before .answer2 .given .1) in
+    same-text (c .before .before .before .before .before .before .before .before .before .before .before .args .text .now) (refused-text (c .before .before .before .before .before .before .before .before .before .before .before .args .line) (replicate 257 0) wide refusal) (c .before .before .refusal-line .ensures)
+
+pub report-line-spec : {M : Type 1} → statement M
+report-line-spec =
+    tie.close
+    (tie.spec
+    slice-aggregate-stations
+    stations-requires
+    enum-known-answer
+    array-share-prefix-row
+    slice-aggregate-station-list
+    station-list-requires
+    enum-known-answer-2
+    refusal-line-requires
+    same-length
+    returns
+    same-length-2
+    returns-2)

@@ -1,0 +1,2 @@
+-- What the contracts of `station_report` cite.
+pub mod Report

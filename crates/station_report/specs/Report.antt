@@ -1,0 +1,27 @@
+-- Document 01's "The station program": what it prints for the bytes of a sheet.
+use mathlib.Core.List.{List}
+use Prim.Native.Nat.{ℕ}
+use Rattle.refusals.specs.Outcomes.{Outcome, passed, refused, _▹_}
+use Rattle.line.specs.declared.Line.{Line}
+use Rattle.sheet.specs.Layout.{firstEdition}
+use Rattle.sheet.specs.Reading.{readOutcome, readLine}
+use Rattle.calculator.specs.Stations.{stationRow}
+use Rattle.calculator.specs.Answer.{alignmentOutcome}
+use Rattle.report.specs.Text.{stationList, refusalLine}
+
+-- The list of stations, or "only `REFUSED`, number, place"
+abbrev pub answerText : Outcome → List ℕ → List ℕ
+answerText passed row = stationList row
+answerText (refused number place) row = refusalLine number place
+
+-- The text of a line: its stations, or the calculator's refusal.
+unfoldable pub lineText : Line → List ℕ
+lineText line = answerText (alignmentOutcome line) (stationRow line)
+
+-- The first refusal of reader and calculator, in this order.
+unfoldable pub sheetOutcome : List ℕ → Outcome
+sheetOutcome sheet = readOutcome firstEdition sheet ▹ alignmentOutcome (readLine firstEdition sheet)
+
+-- The text of a sheet.
+unfoldable pub sheetText : List ℕ → List ℕ
+sheetText sheet = answerText (sheetOutcome sheet) (stationRow (readLine firstEdition sheet))

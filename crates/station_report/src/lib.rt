@@ -1,0 +1,37 @@
+// A sheet's stations as text: reader, calculator and report, one after the other (document 01, "The station program").
+ghost use mathlib.Core.Path.{_≡_};
+ghost use lib.ListN.{length};
+ghost use Rattle.refusals.specs.Filling.{fillReplyOf};
+ghost use Rattle.report.specs.Text.{textAnswer, textBytes};
+ghost use Rattle.station_report.specs.Report.{lineText, sheetText};
+use line::Line;
+use refusals::FillAnswer;
+use refusals::Verdict;
+
+// The stations of a line, or the calculator's refusal, as text at the front of `text`; 257 numbers hold any line's stations.
+fn report_line(line: Line, text: &mut [u8]) -> FillAnswer
+    ensures answer { λ a. ⌜ fillReplyOf a ≡ textAnswer (lineText line) (length (now (text .entry))) ⌝ }
+    ensures memory { λ _. ⌜ now (text .exit) ≡ textBytes (lineText line) (now (text .entry)) ⌝ }
+{
+    let mut row = [0u64; 257];
+    let answer = calculator::stations(line, &mut row);
+    match answer {
+        FillAnswer::Count(count) => report::station_list(&row[..count], &mut *text),
+        FillAnswer::Refused(refusal) => report::refusal_line(refusal, &mut *text),
+    }
+}
+
+// What the station program prints for the bytes of a sheet, at the front of `text`: the list of stations, in metres with six
+// decimals, or the line of the first refusal of reader and calculator. Any bytes are taken. Answers the length of the text, or
+// refusal 16, which leaves `text` as it was; 5,417 bytes are enough for every sheet (`proofs/Fits.antt`).
+pub fn report_sheet(sheet: &[u8], text: &mut [u8]) -> FillAnswer
+    ensures answer { λ a. ⌜ fillReplyOf a ≡ textAnswer (sheetText (now (sheet .entry))) (length (now (text .entry))) ⌝ }
+    ensures memory { λ _. ⌜ now (text .exit) ≡ textBytes (sheetText (now (sheet .entry))) (now (text .entry)) ⌝ }
+{
+    let read = sheet::read(sheet);
+    let verdict = read.verdict;
+    match verdict {
+        Verdict::Pass => report_line(read.line, &mut *text),
+        Verdict::Refused(refusal) => report::refusal_line(refusal, &mut *text),
+    }
+}
