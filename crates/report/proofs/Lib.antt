@@ -4,3 +4,4 @@ pub mod Pieces
 pub mod Names
 pub mod Lengths
 pub mod WaysOut
+pub mod Replies
