@@ -1,15 +1,16 @@
 //! The separately written reference of the road stationing product: the packed
-//! sheet, the elements of one curve (X, Y, k, p, D, TT) and the stations of a
-//! line, worked from document 01 alone. It shares no code with the product and is
-//! written to be compared with the paper line by line; its results are what the
-//! product's results are held against.
+//! sheet, the elements of one curve (X, Y, k, p, D, TT), the stations of a line
+//! and what the station program prints, worked from document 01 alone. It shares
+//! no code with the product and is written to be compared with the paper line by
+//! line; its results are what the product's results are held against.
 //!
 //! The paper is in [`elements`], [`mod@line`], [`refusal`], [`road_tables`],
-//! [`sheet`] (its fields of bits in [`bits`]) and [`stations`], its sums in
-//! fractions are in [`exact`]; the text forms are in [`text`], [`curve`],
-//! [`line_text`], [`hexadecimal`] and [`call`]; what the stored tables are made
-//! of is in [`samples`]. How far rule and fractions lie apart is in [`accuracy`],
-//! looked for by [`search`] and printed by [`accuracy_table`].
+//! [`sheet`] (its fields of bits in [`bits`]), [`stations`] and [`report`], its
+//! sums in fractions are in [`exact`]; the text forms are in [`text`], [`curve`],
+//! [`line_text`], [`hexadecimal`], [`call`] and [`sheet_text`]; what the stored
+//! samples are made of is in [`samples`]. How far rule and fractions lie apart is
+//! in [`accuracy`], looked for by [`search`] and printed by [`accuracy_table`].
+//! The station program is run by [`runner`].
 
 pub mod accuracy;
 pub mod accuracy_table;
@@ -22,9 +23,12 @@ pub mod hexadecimal;
 pub mod line;
 pub mod line_text;
 pub mod refusal;
+pub mod report;
 pub mod road_tables;
+pub mod runner;
 pub mod samples;
 pub mod search;
 pub mod sheet;
+pub mod sheet_text;
 pub mod stations;
 pub mod text;

@@ -157,9 +157,7 @@ mod tests {
 
     /// Case 1's sheet with this value in a field.
     fn with(field: Field, value: u32) -> Vec<u8> {
-        let mut sheet = sheet_of(&Line::case_1());
-        field.put(&mut sheet, value);
-        sheet
+        field.with(&sheet_of(&Line::case_1()), value)
     }
 
     fn random_line(dice: &mut Dice) -> Line {

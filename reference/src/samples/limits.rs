@@ -1,6 +1,6 @@
 //! The least numbers that pass the checks, found with the checks themselves.
 
-use crate::elements::{check_arc, GREATEST_DEFLECTION, GREATEST_RADIUS, GREATEST_SPIRAL};
+use crate::elements::{arc, check_arc, GREATEST_DEFLECTION, GREATEST_RADIUS, GREATEST_SPIRAL};
 use crate::line::{Line, GREATEST_DISTANCE};
 use crate::road_tables::DesignSpeed;
 use crate::stations::{tangents, LEAST_STRAIGHT};
@@ -40,6 +40,12 @@ pub fn least_radius_of_spiral(speed: DesignSpeed, l: u32) -> u32 {
     least(1, GREATEST_RADIUS, |r| speed.reaches_least_spiral(r, l))
 }
 
+/// The least R from `low` whose arc is `length` µm or longer, if there is one in
+/// range.
+pub fn least_radius_of_arc(low: u32, a: u32, l: u32, length: i128) -> u32 {
+    least(low, GREATEST_RADIUS, |r| arc(a, r, l) >= length)
+}
+
 /// The greatest L in range for radius `r`.
 pub fn greatest_spiral(r: u32) -> u32 {
     r.min(GREATEST_SPIRAL)
@@ -65,6 +71,7 @@ mod tests {
         assert_eq!(least_radius(speed, 8), 167_751);
         assert_eq!(least_spiral(speed, 350_000), 40_000);
         assert_eq!(least_distance(&Line::case_1(), 0), 180_991);
+        assert_eq!(least_radius_of_arc(20_000, 1, 0, 1_000), 206_271);
     }
 
     #[test]

@@ -53,14 +53,14 @@ pub fn document_cases() -> Vec<Line> {
 }
 
 /// Case 1 with another first distance.
-fn with_first_distance(distance: u32) -> Line {
+pub fn with_first_distance(distance: u32) -> Line {
     let mut line = Line::case_1();
     line.distances[0] = distance;
     line
 }
 
 /// Case 1 with another curve.
-fn with_curve(curve: Curve) -> Line {
+pub fn with_curve(curve: Curve) -> Line {
     let mut line = Line::case_1();
     line.curves[0] = curve;
     line

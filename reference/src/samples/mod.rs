@@ -9,11 +9,16 @@ pub mod ranges;
 pub mod roads;
 pub mod sheet_fields;
 pub mod sheets;
+pub mod station_cases;
+pub mod station_sheets;
 pub mod writer_calls;
 
 mod call_edges;
 mod faults;
 mod line_edges;
+mod mountain_road;
+mod near_limits;
 mod random_calls;
 mod sheet_edges;
 mod sheet_faults;
+mod station_faults;

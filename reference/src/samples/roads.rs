@@ -33,6 +33,21 @@ pub fn road_with_straight(dice: &mut Dice, n: usize, i: usize, straight: i128) -
     line
 }
 
+/// A road of `n` curves (1 or more) whose curve `i` is this one, made for the
+/// road's design speed and e; its distances fit it.
+pub fn road_with_curve(
+    dice: &mut Dice,
+    n: usize,
+    i: usize,
+    curve: impl Fn(&mut Dice, DesignSpeed, u32) -> Curve,
+) -> Line {
+    let mut line = unfitted_road(dice, n);
+    let speed = line.speed().expect("the design speed is one of the nine");
+    line.curves[i - 1] = curve(dice, speed, line.e);
+    fit_distances(dice, &mut line);
+    line
+}
+
 /// The shortest road of 64 curves.
 pub fn shortest_road() -> Line {
     let speed = SPEEDS[0];
@@ -98,7 +113,7 @@ fn road_curve(dice: &mut Dice, speed: DesignSpeed, e: u32) -> Curve {
 }
 
 /// From the least radius to eight times as much.
-fn road_radius(dice: &mut Dice, speed: DesignSpeed, e: u32) -> u32 {
+pub fn road_radius(dice: &mut Dice, speed: DesignSpeed, e: u32) -> u32 {
     let least = least_radius(speed, e);
     match dice.between(0, 9) {
         0 => least,
@@ -108,7 +123,7 @@ fn road_radius(dice: &mut Dice, speed: DesignSpeed, e: u32) -> u32 {
 }
 
 /// No spiral, the least or a longer one.
-fn road_spiral(dice: &mut Dice, speed: DesignSpeed, r: u32) -> u32 {
+pub fn road_spiral(dice: &mut Dice, speed: DesignSpeed, r: u32) -> u32 {
     let least = least_spiral(speed, r);
     let most = greatest_spiral(r);
     if least > most {
@@ -122,7 +137,7 @@ fn road_spiral(dice: &mut Dice, speed: DesignSpeed, r: u32) -> u32 {
 }
 
 /// The least deflection, a small or a large one.
-fn road_deflection(dice: &mut Dice, r: u32, l: u32) -> u32 {
+pub fn road_deflection(dice: &mut Dice, r: u32, l: u32) -> u32 {
     let least = least_deflection(r, l);
     match dice.between(0, 9) {
         0 => least,

@@ -39,12 +39,10 @@ pub fn sheet_in_range(dice: &mut Dice, n: usize) -> Vec<u8> {
 
 /// The sheet with each of these values in a field.
 fn with_values(sheet: &[u8], field: Field, values: &[u32]) -> Vec<Vec<u8>> {
-    let with_value = |value: &u32| {
-        let mut sheet = sheet.to_vec();
-        field.put(&mut sheet, *value);
-        sheet
-    };
-    values.iter().map(with_value).collect()
+    values
+        .iter()
+        .map(|value| field.with(sheet, *value))
+        .collect()
 }
 
 /// Sheets cut short, exact, and longer.

@@ -3,7 +3,8 @@
 use super::dice::Dice;
 use super::limits::greatest_spiral;
 use super::sheet_fields::{
-    deflection, distance, fill, radius, spiral, Field, COUNT, CROSSFALL, EDITION, SPEED, START,
+    deflection, distance, fill, flip, radius, spiral, Field, COUNT, CROSSFALL, EDITION, SPEED,
+    START,
 };
 use crate::elements::{GREATEST_DEFLECTION, GREATEST_RADIUS, SMALLEST_RADIUS};
 use crate::line::{CROSSFALLS, GREATEST_DISTANCE, GREATEST_START, MOST_CURVES};
@@ -94,6 +95,12 @@ pub fn lengthen(dice: &mut Dice, sheet: &mut Vec<u8>) {
     let count = dice.one_of(&[1, any]);
     let any = dice.byte();
     sheet.resize(sheet.len() + count, dice.one_of(&[0, any]));
+}
+
+/// Changes any one bit of the sheet.
+pub fn flip_any(dice: &mut Dice, sheet: &mut [u8]) {
+    let bit = dice.index(0, 8 * sheet.len() - 1);
+    flip(sheet, bit);
 }
 
 /// Puts a value that fits the field, but is outside the range: often the next

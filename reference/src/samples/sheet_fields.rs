@@ -1,7 +1,8 @@
 //! Where the fields of a sheet stand (document 01, Packed sheet), to put any
 //! value into any of them.
 
-use crate::line::Line;
+use crate::curve::Curve;
+use crate::line::{Line, MOST_CURVES};
 use crate::sheet::{sheet_length, write};
 
 /// A field: its first bit, from 0, and its width in bits.
@@ -71,6 +72,13 @@ impl Field {
         }
     }
 
+    /// The sheet with this value, which fits, in the field.
+    pub fn with(self, sheet: &[u8], value: u32) -> Vec<u8> {
+        let mut sheet = sheet.to_vec();
+        self.put(&mut sheet, value);
+        sheet
+    }
+
     /// The value in the field of the sheet.
     pub fn value(self, sheet: &[u8]) -> u32 {
         self.bits()
@@ -95,6 +103,47 @@ fn bit_mask(bit: usize) -> u8 {
     0x80 >> (bit % 8)
 }
 
+/// The values of a line in their fields, edition to last distance, for at most
+/// 64 curves.
+fn values(line: &Line) -> Vec<(Field, u32)> {
+    let mut values = vec![
+        (EDITION, 1),
+        (COUNT, line.n),
+        (SPEED, line.v),
+        (CROSSFALL, line.e),
+        (START, line.start),
+        (distance(0), line.distances[0]),
+    ];
+    for i in 1..=line.curve_count() {
+        let Curve { a, r, l } = line.curve(i);
+        values.extend([
+            (side(i), line.sides[i - 1].number()),
+            (deflection(i), a),
+            (radius(i), r),
+            (spiral(i), l),
+            (distance(i), line.distances[i]),
+        ]);
+    }
+    values
+}
+
+/// The sheet of a line, its fields in range or not; nothing when there are more
+/// than 64 curves or a value does not fit its field.
+pub fn sheet_of_any(line: &Line) -> Option<Vec<u8>> {
+    if line.curve_count() > MOST_CURVES {
+        return None;
+    }
+    let values = values(line);
+    if values.iter().any(|(field, value)| *value > field.most()) {
+        return None;
+    }
+    let mut sheet = vec![0; sheet_length(line.curve_count())];
+    for (field, value) in values {
+        field.put(&mut sheet, value);
+    }
+    Some(sheet)
+}
+
 /// The sheet of a line that the writer takes.
 pub fn sheet_of(line: &Line) -> Vec<u8> {
     let mut sheet = vec![0; sheet_length(line.curve_count())];
@@ -104,6 +153,8 @@ pub fn sheet_of(line: &Line) -> Vec<u8> {
 
 #[cfg(test)]
 mod tests {
+    use super::super::dice::Dice;
+    use super::super::ranges::line_in_range;
     use super::*;
 
     #[test]
@@ -145,6 +196,24 @@ mod tests {
             [0, 1].map(|i| distance(i).value(&sheet)),
             [500_000, 400_000]
         );
+    }
+
+    #[test]
+    fn sheets_of_any_lines() {
+        let mut dice = Dice::new(1);
+        for n in 0..=64 {
+            let line = line_in_range(&mut dice, n);
+            assert_eq!(sheet_of_any(&line), Some(sheet_of(&line)));
+        }
+        let case_1 = sheet_of(&Line::case_1());
+        let mut line = Line::case_1();
+        line.curves[0].r = radius(1).most();
+        let sheet = radius(1).with(&case_1, radius(1).most());
+        assert_eq!(sheet_of_any(&line), Some(sheet));
+        line.curves[0].r += 1;
+        assert_eq!(sheet_of_any(&line), None);
+        line.n = 65;
+        assert_eq!(sheet_of_any(&line), None);
     }
 
     #[test]

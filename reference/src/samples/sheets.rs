@@ -4,10 +4,9 @@
 use super::dice::Dice;
 use super::roads::road;
 use super::sheet_edges::{edges, sheet_in_range};
-use super::sheet_faults::{any_fault, cut, lengthen, put_faults, set_fill};
+use super::sheet_faults::{any_fault, cut, flip_any, lengthen, put_faults, set_fill};
 use super::sheet_fields::{
-    deflection, distance, fill, flip, radius, sheet_of, spiral, COUNT, CROSSFALL, EDITION, SPEED,
-    START,
+    deflection, distance, fill, radius, sheet_of, spiral, COUNT, CROSSFALL, EDITION, SPEED, START,
 };
 use crate::hexadecimal::MOST_BYTES;
 use crate::line::{Line, CROSSFALLS, GREATEST_START, MOST_CURVES};
@@ -103,8 +102,7 @@ fn long_sheet(dice: &mut Dice) -> Vec<u8> {
 /// A sheet with one bit changed.
 fn flipped_sheet(dice: &mut Dice) -> Vec<u8> {
     let mut sheet = any_sheet(dice);
-    let bit = dice.index(0, 8 * sheet.len() - 1);
-    flip(&mut sheet, bit);
+    flip_any(dice, &mut sheet);
     sheet
 }
 
@@ -157,13 +155,13 @@ fn scattered_values(dice: &mut Dice) -> Vec<u8> {
 }
 
 /// Any bytes.
-fn any_bytes(dice: &mut Dice) -> Vec<u8> {
+pub fn any_bytes(dice: &mut Dice) -> Vec<u8> {
     let length = dice.index(0, MOST_BYTES);
     bytes(dice, length)
 }
 
 /// Any bytes after the edition.
-fn any_bytes_of_the_edition(dice: &mut Dice) -> Vec<u8> {
+pub fn any_bytes_of_the_edition(dice: &mut Dice) -> Vec<u8> {
     let length = dice.index(1, MOST_BYTES);
     let mut sheet = bytes(dice, length);
     EDITION.put(&mut sheet, 1);
@@ -171,7 +169,7 @@ fn any_bytes_of_the_edition(dice: &mut Dice) -> Vec<u8> {
 }
 
 /// A heading in range and the right length, the entries of any bits.
-fn any_entries(dice: &mut Dice) -> Vec<u8> {
+pub fn any_entries(dice: &mut Dice) -> Vec<u8> {
     let n = dice.index(0, MOST_CURVES);
     let mut sheet = bytes(dice, sheet_length(n));
     EDITION.put(&mut sheet, 1);
