@@ -8,6 +8,7 @@ pub mod RowSteps
 pub mod WaysOut
 pub mod Accepted
 pub mod InOrder
+pub mod Numbers
 pub mod Unused
 pub mod FirstRefusal
 pub mod Examples

@@ -5,3 +5,4 @@ pub mod Names
 pub mod Lengths
 pub mod WaysOut
 pub mod Replies
+pub mod Short

@@ -8,6 +8,7 @@ pub mod Frames
 pub mod LineSteps
 pub mod SheetSteps
 pub mod WaysOut
+pub mod Numbers
 pub mod Unused
 pub mod WrittenAgain
 pub mod ReadAgain

@@ -1,2 +1,3 @@
 -- The laws of `station_report`.
 pub mod Texts
+pub mod Fits

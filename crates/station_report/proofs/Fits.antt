@@ -1,0 +1,55 @@
+-- No sheet's text is longer than 5,417 bytes, so that so many lent bytes are never refused. Assumes nothing.
+use mathlib.Core.Path.{_≡_, refl}
+use mathlib.Core.List.{List}
+use Prim.Native.Nat.{ℕ, _≤_, _<_}
+use native.Mathlib.Omega.{arith}
+use lib.ListN.{length}
+use borrow.Author.Tests.{le-leb}
+use Rattle.refusals.specs.Outcomes.{Outcome, passed, refused, _▹_}
+use Rattle.refusals.specs.Filling.{filled}
+use Rattle.refusals.proofs.Numbers.{Refuses, joined-numbers, wider}
+use Rattle.refusals.proofs.Joining.{passed-right}
+use Rattle.line.specs.declared.Line.{Line}
+use Rattle.sheet.specs.Layout.{firstEdition}
+use Rattle.sheet.specs.Reading.{lineOf, readOutcome, lineAfter, readLine}
+use Rattle.sheet.proofs.Frames.{count-below}
+use Rattle.sheet.proofs.Numbers.{read-numbers}
+use Rattle.calculator.specs.Stations.{stationRow}
+use Rattle.calculator.specs.Answer.{alignmentOutcome}
+use Rattle.calculator.proofs.Accepted.{few}
+use Rattle.calculator.proofs.InOrder.{in-order}
+use Rattle.calculator.proofs.WaysOut.{row-count}
+use Rattle.calculator.proofs.Numbers.{alignment-numbers}
+use Rattle.report.specs.Text.{textOutcome, textAnswer}
+use Rattle.report.proofs.Short.{list-short, refusal-short}
+use Rattle.station_report.specs.Report.{answerText, sheetOutcome, sheetText}
+
+-- The text of an answer, where a refusal has few digits and a row that passes is one that was accepted.
+text-short : (line : Line) (o : Outcome) → Refuses 1 15 127 o → (o ≡ passed → alignmentOutcome line ≡ passed)
+    → length (answerText o (stationRow line)) ≤ 5417
+text-short line passed r a =
+    let accepted = a refl in
+    list-short (stationRow line) (omega (arith, row-count line, few line accepted)) (λ k. omega (arith, in-order line accepted .most k))
+text-short line (refused n p) r a = omega (arith, refusal-short n p (omega (arith, r .number n p refl .1)) (omega (arith, r .place n p refl)))
+
+-- n has seven bits.
+count-short : (line : Line) (o : Outcome) → line .count < 128 → lineAfter o line .count ≤ 127
+count-short line passed h = omega arith
+count-short line (refused n p) h = omega arith
+
+pub fits : (sheet : List ℕ) → length (sheetText sheet) ≤ 5417
+unfolding sheetText sheetOutcome readLine lineOf
+fits sheet =
+    let read = readOutcome firstEdition sheet in
+    let line = readLine firstEdition sheet in
+    let seven-bits = count-below firstEdition sheet refl in
+    text-short line (read ▹ alignmentOutcome line)
+    (joined-numbers read (alignmentOutcome line)
+    (wider read (read-numbers firstEdition sheet) (omega arith) (omega arith) (omega arith))
+    (wider (alignmentOutcome line) (alignment-numbers line) (omega arith) (omega arith) (count-short (lineOf firstEdition sheet) read seven-bits)))
+    (passed-right read (alignmentOutcome line))
+
+-- So the station program's bytes are always enough.
+pub always-given : (sheet : List ℕ) (room : ℕ) → 5417 ≤ room → textAnswer (sheetText sheet) room ≡ filled (length (sheetText sheet))
+unfolding textAnswer textOutcome
+always-given sheet room h = rw (le-leb (length (sheetText sheet)) room (omega (arith, fits sheet))) refl
