@@ -1,4 +1,4 @@
--- Document 01's cases 1 to 5, and 12 to 14 curve by curve, from the definitions. Assumes nothing.
+-- Document 01's cases 1 to 5 and 9, and 12 to 14 curve by curve, from the definitions. Assumes nothing.
 use mathlib.Core.Path.{_≡_, refl}
 use mathlib.Core.Bool.{true, false}
 use mathlib.Core.List.{List, [], _∷_}
@@ -21,8 +21,8 @@ abbrev curve : ℕ → ℕ → ℕ → Curve
 curve A R L = record { left = false; deflection = A; radius = R; spiral = L }
 
 -- V 70, e 8, start 0, second distance 400,000 and A 177,764 right; the first distance, R and L differ by case.
-abbrev lineOf : (distance R L : ℕ) → Line
-lineOf distance R L =
+abbrev pub caseLine : (distance R L : ℕ) → Line
+caseLine distance R L =
     record {
       speed = 70;
       crossfall = 8;
@@ -31,6 +31,11 @@ lineOf distance R L =
       distances = distance ∷ 400000 ∷ replicate 63 0;
       curves = curve 177764 R L ∷ replicate 63 (curve 0 0 0);
     }
+
+-- Case 9: no curve, distance 500,000.
+abbrev pub noCurve : Line
+noCurve =
+    record { speed = 70; crossfall = 8; start = 0; count = 0; distances = 500000 ∷ replicate 64 0; curves = replicate 64 (curve 0 0 0) }
 
 -- Two curves with a fault each: the spiral of the first is too short, and the radius of the second too small.
 abbrev twoFaults : Line
@@ -45,22 +50,25 @@ twoFaults =
     }
 
 -- A row with two numbers more than there are stations.
-abbrev row : List ℕ
+abbrev pub row : List ℕ
 row = 1 ∷ 2 ∷ 3 ∷ 4 ∷ 5 ∷ 6 ∷ 7 ∷ []
 
 pub record Examples : Type 0 where
-  pub case-1 : stationsAnswer (lineOf 500000 350000 40000) 7 ≡ filled 5
-  pub case-1-row : stationsRow (lineOf 500000 350000 40000) row
+  pub case-1 : stationsAnswer (caseLine 500000 350000 40000) 7 ≡ filled 5
+  pub case-1-row : stationsRow (caseLine 500000 350000 40000) row
       ≡ 319010722 ∷ 359010722 ∷ 620649189 ∷ 660649189 ∷ 879659911 ∷ 6 ∷ 7 ∷ []
-  pub case-1-small : stationsAnswer (lineOf 500000 350000 40000) 4 ≡ unfilled 16 0
-  pub case-2 : stationsAnswer (lineOf 180991 350000 40000) 5 ≡ filled 5
-  pub case-2-straight : straightAt (lineOf 180991 350000 40000) 0 ≡ pos 1722
-  pub case-3 : stationsAnswer (lineOf 180990 350000 40000) 0 ≡ unfilled 15 0
-  pub case-3-row : stationsRow (lineOf 180990 350000 40000) row ≡ row
-  pub case-4 : stationsAnswer (lineOf 500000 350000 39999) 5 ≡ unfilled 13 1
+  pub case-1-small : stationsAnswer (caseLine 500000 350000 40000) 4 ≡ unfilled 16 0
+  pub case-2 : stationsAnswer (caseLine 180991 350000 40000) 5 ≡ filled 5
+  pub case-2-straight : straightAt (caseLine 180991 350000 40000) 0 ≡ pos 1722
+  pub case-3 : stationsAnswer (caseLine 180990 350000 40000) 0 ≡ unfilled 15 0
+  pub case-3-row : stationsRow (caseLine 180990 350000 40000) row ≡ row
+  pub case-4 : stationsAnswer (caseLine 500000 350000 39999) 5 ≡ unfilled 13 1
   pub case-5 : radiusServes 70 8 167751 ≡ true
-  pub case-5-accepted : stationsAnswer (lineOf 500000 167751 0) 5 ≡ filled 5
-  pub case-5-refused : stationsAnswer (lineOf 500000 167750 0) 5 ≡ unfilled 12 1
+  pub case-5-below : radiusServes 70 8 167750 ≡ false
+  pub case-5-accepted : stationsAnswer (caseLine 500000 167751 0) 5 ≡ filled 5
+  pub case-5-refused : stationsAnswer (caseLine 500000 167750 0) 5 ≡ unfilled 12 1
+  pub case-9 : stationsAnswer noCurve 1 ≡ filled 1
+  pub case-9-row : stationsRow noCurve (7 ∷ []) ≡ 500000000 ∷ []
   pub curve-by-curve : stationsAnswer twoFaults 9 ≡ unfilled 13 1
 
 pub examples : Examples
@@ -76,7 +84,10 @@ examples =
       case-3-row = refl;
       case-4 = refl;
       case-5 = refl;
+      case-5-below = refl;
       case-5-accepted = refl;
       case-5-refused = refl;
+      case-9 = refl;
+      case-9-row = refl;
       curve-by-curve = refl;
     }

@@ -1,6 +1,6 @@
 -- The digits that `io` makes of a number are those of the definitions. Assumes nothing.
 use mathlib.Core.Path.{_≡_, refl, sym, _∙_, ap, subst}
-use mathlib.Core.Bool.{Bool, true, false, cond}
+use mathlib.Core.Bool.{Bool, true, false}
 use mathlib.Core.List.{List, [], _∷_, _++_}
 use Prim.Native.Nat.{ℕ, zero, suc, _+_, _-_, _*_, _/_, _%_, _^_, _≤_, _<_}
 use native.Mathlib.Nat.{mul-assoc, mul-add-div-right, mul-add-mod-self-right, pow-suc}
@@ -10,7 +10,7 @@ use lib.ListN.{length, take, drop, length-append}
 use lib.Seq.{drop-append-le}
 use borrow.Author.Tests.{lt-ltb, le-ltb}
 use Rattle.io.specs.Digits.{glyph, digits, Fewest}
-use Rattle.report.specs.Numbers.{digitsWithin, decimal}
+use Rattle.report.specs.Numbers.{oneOrMore, digitsWithin, decimal}
 
 pub digits-length : (b k n : ℕ) → length (digits b k n) ≡ k
 digits-length b zero n = refl
@@ -64,9 +64,9 @@ decimal-digits n k few = ap (λ (m : ℕ). digits 10 m n) (sym (fewest-digits n 
 pub decimal-length : (n k : ℕ) → Fewest 10 1 n k → k ≡ length (decimal n)
 decimal-length n k few = sym (digits-length 10 k n) ∙ ap length (decimal-digits n k few)
 
-either-way : (b : Bool) {m n most : ℕ} → m ≤ most → n ≤ most → cond b m n ≤ most
-either-way true h k = h
-either-way false h k = k
+either-way : (b : Bool) (f : ℕ → ℕ) (n : ℕ) {most : ℕ} → f (n / 10) ≤ most → oneOrMore b f n ≤ suc most
+either-way true f n h = omega arith
+either-way false f n h = omega arith
 
 -- A number below a power of ten has no more digits than its exponent.
 few-digits : (fuel n k : ℕ) → n < 10 ^ suc k → digitsWithin fuel n ≤ suc k
@@ -74,7 +74,7 @@ unfolding digitsWithin
 few-digits zero n k h = omega arith
 few-digits (suc fuel) n zero h = rw (lt-ltb n 10 h) (omega arith)
 few-digits (suc fuel) n (suc k) h =
-    either-way (ltb n 10) (omega arith) (omega (arith, few-digits fuel (n / 10) k (omega (arith, pow-suc 10 (suc k)))))
+    either-way (ltb n 10) (digitsWithin fuel) n (few-digits fuel (n / 10) k (omega (arith, pow-suc 10 (suc k))))
 
 pub decimal-short : (n k : ℕ) → n < 10 ^ suc k → length (decimal n) ≤ suc k
 unfolding decimal

@@ -6,3 +6,4 @@ pub mod Lengths
 pub mod WaysOut
 pub mod Replies
 pub mod Short
+pub mod Examples

@@ -1,5 +1,5 @@
 -- Document 01's "The station program": numbers as text, in ASCII codes.
-use mathlib.Core.Bool.{cond}
+use mathlib.Core.Bool.{Bool, true, false}
 use mathlib.Core.List.{List, [], _∷_, _++_}
 use Prim.Native.Nat.{ℕ, zero, suc, _/_, _%_}
 use Prim.Native.Char.{code}
@@ -12,10 +12,15 @@ unfoldable pub ascii : String → List ℕ
 ascii noText = []
 ascii (c ∷ₜ text) = code c ∷ ascii text
 
--- How many decimal digits n has: one below ten, else one more than its tenth part; n is `fuel` enough.
-unfoldable pub digitsWithin : (fuel n : ℕ) → ℕ
+-- How many decimal digits n has: one where it is below ten, else one more than its tenth part. The first number is how often that
+-- may be asked; n itself is enough.
+abbrev pub oneOrMore : Bool → (ℕ → ℕ) → ℕ → ℕ
+oneOrMore true digitsOf n = 1
+oneOrMore false digitsOf n = suc (digitsOf (n / 10))
+
+unfoldable pub digitsWithin : ℕ → ℕ → ℕ
 digitsWithin zero n = 1
-digitsWithin (suc fuel) n = cond (ltb n 10) 1 (suc (digitsWithin fuel (n / 10)))
+digitsWithin (suc steps) n = oneOrMore (ltb n 10) (digitsWithin steps) n
 
 -- A number in decimal digits, without zeros in front.
 unfoldable pub decimal : ℕ → List ℕ

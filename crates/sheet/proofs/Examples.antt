@@ -20,7 +20,7 @@ use Rattle.sheet.specs.Writing.{entriesAfter, numberTo, sheetNumber, she
 abbrev nineBytes : List ℕ
 nineBytes = 0x10 ∷ 0x11 ∷ 0xA0 ∷ 0x00 ∷ 0x00 ∷ 0x00 ∷ 0x00 ∷ 0xF4 ∷ 0x24 ∷ []
 
-abbrev sheet9 : List ℕ
+abbrev pub sheet9 : List ℕ
 sheet9 = nineBytes ++ (0x00 ∷ [])
 
 abbrev line9 : List ℕ → List Curve → Line

@@ -1,3 +1,4 @@
 -- The laws of `station_report`.
 pub mod Texts
 pub mod Fits
+pub mod DocumentCases

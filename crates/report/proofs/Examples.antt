@@ -1,0 +1,42 @@
+-- Texts by computation: document 01's case 1 as printed there, other stations and refusals, and the caller's bytes. Assumes nothing.
+use mathlib.Core.Path.{_≡_, refl}
+use mathlib.Core.List.{List, [], _∷_, _++_}
+use Prim.Native.Nat.{ℕ}
+use lib.ListN.{replicate}
+use Rattle.refusals.specs.Filling.{filled, unfilled}
+use Rattle.report.specs.Numbers.{ascii, digitsWithin, decimal, metres}
+use Rattle.report.specs.Text.{words, heading, pointName, nameAt, curveAt, lineAt, linesTo, stationList, refusalLine, textOutcome, textAnswer, textBytes}
+
+pub record Examples : Type 0 where
+  pub case-1 : stationList (319010722 ∷ 359010722 ∷ 620649189 ∷ 660649189 ∷ 879659911 ∷ [])
+      ≡ ascii "POINT CURVE STATION\nTS 1 319.010722\nSC 1 359.010722\nCS 1 620.649189\nST 1 660.649189\nEND 0 879.659911\n"
+  pub no-curve : stationList (500000000 ∷ []) ≡ ascii "POINT CURVE STATION\nEND 0 500.000000\n"
+  pub second-curve : lineAt (1 ∷ 2 ∷ 3 ∷ 4 ∷ 5 ∷ 6 ∷ 7 ∷ 8 ∷ 9 ∷ []) 6 ≡ ascii "CS 2 0.000007\n"
+  pub first-station : metres 0 ≡ ascii "0.000000"
+  pub short-straight : metres 1722 ≡ ascii "0.001722"
+  pub greatest : metres 18446744073709551615 ≡ ascii "18446744073709.551615"
+  pub refusal : refusalLine 15 0 ≡ ascii "REFUSED 15 0\n"
+  pub last-place : refusalLine 8 64 ≡ ascii "REFUSED 8 64\n"
+  -- ---- the caller's bytes
+  pub too-small : textAnswer (refusalLine 15 0) 12 ≡ unfilled 16 0
+  pub as-lent : textBytes (refusalLine 15 0) (replicate 12 7) ≡ replicate 12 7
+  pub exact : textAnswer (refusalLine 15 0) 13 ≡ filled 13
+  pub remainder : textBytes (refusalLine 1 0) (replicate 14 7) ≡ ascii "REFUSED 1 0\n" ++ (7 ∷ 7 ∷ [])
+
+pub examples : Examples
+unfolding ascii digitsWithin decimal metres words heading pointName nameAt curveAt lineAt linesTo stationList refusalLine textOutcome textAnswer textBytes
+examples =
+    record {
+      case-1 = refl;
+      no-curve = refl;
+      second-curve = refl;
+      first-station = refl;
+      short-straight = refl;
+      greatest = refl;
+      refusal = refl;
+      last-place = refl;
+      too-small = refl;
+      as-lent = refl;
+      exact = refl;
+      remainder = refl;
+    }
