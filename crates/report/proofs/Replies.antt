@@ -27,6 +27,6 @@ given-text text bytes {count} e =
       all = told .1;
       room = omega (arith, told .1, leb-true (length text) (length bytes) (need-holds (leb (length text) (length bytes)) 16 0 (told .0)));
       front =
-        ap (λ (o : Outcome). take count (bufferAfter o text bytes)) (told .0)
-        ∙ take-at text (drop (length text) bytes) count (sym (told .1));
+          ap (λ (o : Outcome). take count (bufferAfter o text bytes)) (told .0)
+          ∙ take-at text (drop (length text) bytes) count (sym (told .1));
     }

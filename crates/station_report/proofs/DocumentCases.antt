@@ -1,11 +1,10 @@
 -- Document 01's starred cases, 1 to 9, by a single claim from the definitions that the contracts cite: reader, elements, calculator and
 -- text. Assumes nothing.
-use mathlib.Core.Path.{_≡_, refl, _∙_, ap}
+use mathlib.Core.Path.{_≡_, refl, sym, _∙_, ap}
 use mathlib.Core.Bool.{true, false}
 use mathlib.Core.List.{List, [], _∷_}
 use Prim.Native.Nat.{ℕ}
 use lib.IntN.{pos, negsuc}
-use lib.ListN.{take}
 use Rattle.refusals.specs.Outcomes.{passed}
 use Rattle.refusals.specs.Filling.{filled, unfilled}
 use Rattle.line.specs.Checks.{startOutcome, headOutcome, distanceOutcome, curveOutcome, bodyOutcome}
@@ -24,7 +23,6 @@ use Rattle.calculator.specs.Answer.{stationsAnswer, stationsRow}
 use Rattle.calculator.proofs.Examples.{caseLine, noCurve, row}
 use Rattle.calculator.proofs.Examples as lines
 use Rattle.report.specs.Numbers.{ascii}
-use Rattle.report.specs.Text.{stationList}
 use Rattle.report.proofs.Examples as texts
 use Rattle.station_report.specs.Report.{lineText, sheetText}
 use Rattle.station_report.proofs.Texts.{counted-text, read-text}
@@ -76,11 +74,10 @@ document-cases =
       case-1-line = read1 .1;
       case-1-stations = lines.examples .case-1-row;
       case-1-printed =
-        read-text sheet1 (read1 .0)
-        ∙ ap lineText (read1 .1)
-        ∙ counted-text (caseLine 500000 350000 40000) row (lines.examples .case-1)
-        ∙ ap (λ (numbers : List ℕ). stationList (take 5 numbers)) (lines.examples .case-1-row)
-        ∙ texts.examples .case-1;
+          read-text sheet1 (read1 .0)
+          ∙ ap lineText (read1 .1)
+          ∙ counted-text (caseLine 500000 350000 40000) row (sym (lines.examples .case-1-row)) (lines.examples .case-1)
+          ∙ texts.examples .case-1;
       case-2-accepted = lines.examples .case-2;
       case-2-straight = lines.examples .case-2-straight;
       case-3 = lines.examples .case-3;
@@ -98,9 +95,8 @@ document-cases =
       case-9-line = sheets.examples .case-9-line;
       case-9-end = lines.examples .case-9-row;
       case-9-printed =
-        read-text sheet9 (sheets.examples .case-9-read)
-        ∙ ap lineText (sheets.examples .case-9-line)
-        ∙ counted-text noCurve (7 ∷ []) (lines.examples .case-9)
-        ∙ ap (λ (numbers : List ℕ). stationList (take 1 numbers)) (lines.examples .case-9-row)
-        ∙ texts.examples .no-curve;
+          read-text sheet9 (sheets.examples .case-9-read)
+          ∙ ap lineText (sheets.examples .case-9-line)
+          ∙ counted-text noCurve (7 ∷ []) (sym (lines.examples .case-9-row)) (lines.examples .case-9)
+          ∙ texts.examples .no-curve;
     }

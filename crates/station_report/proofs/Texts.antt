@@ -1,9 +1,9 @@
 -- The text of a line by the calculator's answer, and the text of a sheet by the reader's. Assumes nothing.
 use mathlib.Core.Path.{_≡_, refl, sym, _∙_, ap, subst}
-use mathlib.Core.List.{List, _++_}
+use mathlib.Core.List.{List}
 use Prim.Native.Nat.{ℕ, _≤_}
 use native.Mathlib.Omega.{arith}
-use lib.ListN.{length, take, drop}
+use lib.ListN.{length, take, drop, length-append}
 use lib.Seq.{take-at}
 use borrow.Author.Tests.{le-leb}
 use Rattle.refusals.specs.Outcomes.{Outcome, passed, refused, _▹_}
@@ -25,35 +25,34 @@ pub same-text : (bytes : List ℕ) {t u after : List ℕ} {reply : FillReply} �
 same-text bytes {after} {reply} e given =
     subst (λ (t : List ℕ). (reply ≡ textAnswer t (length bytes)) × (after ≡ textBytes t bytes)) (sym e) given
 
--- ---- the calculator's answer, for a row of 257 numbers
+-- ---- the calculator's answer, and its row
 
-module _ (line : Line) (row : List ℕ) (wide : length row ≡ 257) where
-  -- Such a row is never too small.
-  room-enough : (o : Outcome) → alignmentOutcome line ≡ o → o ▹ roomCheck line (length row) ≡ o
-  unfolding roomCheck
-  room-enough passed e = rw (le-leb (stationCount line) (length row) (omega (arith, wide, few line e))) refl
-  room-enough (refused n p) e = refl
+module _ (line : Line) (row : List ℕ) {after : List ℕ} (stored : after ≡ stationsRow line row) where
+  pub counted-within : {count : ℕ} → stationsAnswer line (length row) ≡ filled count → count ≤ length after
+  counted-within e =
+      let c = counted line row e in
+      omega (arith, c .all, row-count line, ap length (stored ∙ c .stations), length-append (stationRow line) (drop (stationCount line) row))
 
-  all-checks : stationsOutcome line (length row) ≡ alignmentOutcome line
-  unfolding stationsOutcome
-  all-checks = room-enough (alignmentOutcome line) refl
-
-  pub refused-text : {n p : ℕ} → stationsAnswer line (length row) ≡ unfilled n p → lineText line ≡ refusalLine n p
+  -- The first numbers of the row are the list.
+  pub counted-text : {count : ℕ} → stationsAnswer line (length row) ≡ filled count → lineText line ≡ stationList (take count after)
   unfolding lineText
-  refused-text e = ap (λ (o : Outcome). answerText o (stationRow line)) (sym all-checks ∙ refused-stations line row e .outcome)
+  counted-text {count} e =
+      let c = counted line row e in
+      let front : take count after ≡ stationRow line =
+      ap (take count) (stored ∙ c .stations) ∙ take-at (stationRow line) (drop (stationCount line) row) count (row-count line ∙ sym (c .all)) in
+      ap (λ (o : Outcome). answerText o (stationRow line)) (c .checked) ∙ ap stationList (sym front)
 
--- The count of a row is within it, and its first numbers are the list.
-pub counted-within : (line : Line) (row : List ℕ) {count : ℕ} → stationsAnswer line (length row) ≡ filled count → count ≤ length row
-counted-within line row e = omega (arith, counted line row e .room, counted line row e .all)
+  -- A row of 257 numbers is never too small.
+  room-enough : length row ≡ 257 → (o : Outcome) → alignmentOutcome line ≡ o → o ▹ roomCheck line (length row) ≡ o
+  unfolding roomCheck
+  room-enough wide passed e = rw (le-leb (stationCount line) (length row) (omega (arith, wide, few line e))) refl
+  room-enough wide (refused n p) e = refl
 
-pub counted-text : (line : Line) (row : List ℕ) {count : ℕ} → stationsAnswer line (length row) ≡ filled count
-    → lineText line ≡ stationList (take count (stationsRow line row))
-unfolding lineText
-counted-text line row {count} e =
-    let c = counted line row e in
-    let front : take count (stationsRow line row) ≡ stationRow line =
-    ap (take count) (c .stations) ∙ take-at (stationRow line) (drop (stationCount line) row) count (row-count line ∙ sym (c .all)) in
-    ap (λ (o : Outcome). answerText o (stationRow line)) (c .checked) ∙ ap stationList (sym front)
+  pub refused-text : length row ≡ 257 → {n p : ℕ} → stationsAnswer line (length row) ≡ unfilled n p → lineText line ≡ refusalLine n p
+  unfolding lineText stationsOutcome
+  refused-text wide e =
+      let checks = room-enough wide (alignmentOutcome line) refl in
+      ap (λ (o : Outcome). answerText o (stationRow line)) (sym checks ∙ refused-stations line row e .outcome)
 
 -- ---- the reader's answer
 

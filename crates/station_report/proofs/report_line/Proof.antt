@@ -24,15 +24,15 @@ array-share-prefix-row : tie.Need-array-share-prefix-row
 array-share-prefix-row c =
     let called = c .before .before .before .before .stations in
     let told = c .before .answer .given in
-    let count = sym (called .ensures .0) ∙ ap fillReplyOf (told .1) in
-    subst (λ (n : ℕ). told .0 .0 ≤ n) (sym (called .kept .1 .0)) (counted-within (c .before .before .before .before .before .before .before .args .line) (replicate 257 0) count)
+    let reply = sym (called .ensures .0) ∙ ap fillReplyOf (told .1) in
+    counted-within _ _ (called .ensures .1) reply
 
 slice-aggregate-station-list : tie.Need-slice-aggregate-station-list
 slice-aggregate-station-list c =
     let called = c .before .before .before .before .before .stations in
     let told = c .before .before .answer .given in
-    let count = sym (called .ensures .0) ∙ ap fillReplyOf (told .1) in
-    sym (length-take-le (told .0 .0) (called .last .1 .0) (subst (λ (n : ℕ). told .0 .0 ≤ n) (sym (called .kept .1 .0)) (counted-within (c .before .before .before .before .before .before .before .before .args .line) (replicate 257 0) count)))
+    let reply = sym (called .ensures .0) ∙ ap fillReplyOf (told .1) in
+    sym (length-take-le (told .0 .0) (called .last .1 .0) (counted-within _ _ (called .ensures .1) reply))
 
 station-list-requires : tie.Need-station-list-requires
 station-list-requires c κs = search needs
@@ -50,18 +50,18 @@ returns : tie.Need-returns
 returns c =
     let called = c .before .before .before .before .before .before .before .before .before .stations in
     let told = c .before .before .before .before .before .before .answer .given in
-    let count = sym (called .ensures .0) ∙ ap fillReplyOf (told .1) in
-    let text = counted-text (c .before .before .before .before .before .before .before .before .before .before .before .before .args .line) (replicate 257 0) count ∙ ap (λ (row : List ℕ). stationList (take (told .0 .0) row)) (sym (called .ensures .1)) in
-    same-text (c .before .before .before .before .before .before .before .before .before .before .before .before .args .text .now) text (c .before .before .station-list .ensures)
+    let reply = sym (called .ensures .0) ∙ ap fillReplyOf (told .1) in
+    same-text (c .before .before .before .before .before .before .before .before .before .before .before .before .args .text .now) (counted-text _ _ (called .ensures .1) reply) (c .before .before .station-list .ensures)
 
 same-length-2 : tie.Need-same-length-2
 same-length-2 c = search needs
 
 returns-2 : tie.Need-returns-2
 returns-2 c =
-    let wide : length (replicate {A = ℕ} 257 0) ≡ 257 = length-replicate {A = ℕ} 257 0 in
-    let refusal = sym (c .before .before .before .before .before .before .before .before .stations .ensures .0) ∙ ap fillReplyOf (c .before .before .before .before .before .answer2 .given .1) in
-    same-text (c .before .before .before .before .before .before .before .before .before .before .before .args .text .now) (refused-text (c .before .before .before .before .before .before .before .before .before .before .before .args .line) (replicate 257 0) wide refusal) (c .before .before .refusal-line .ensures)
+    let called = c .before .before .before .before .before .before .before .before .stations in
+    let told = c .before .before .before .before .before .answer2 .given in
+    let reply = sym (called .ensures .0) ∙ ap fillReplyOf (told .1) in
+    same-text (c .before .before .before .before .before .before .before .before .before .before .before .args .text .now) (refused-text _ _ (called .ensures .1) (length-replicate {A = ℕ} 257 0) reply) (c .before .before .refusal-line .ensures)
 
 pub report-line-spec : {M : Type 1} → statement M
 report-line-spec =
