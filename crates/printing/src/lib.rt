@@ -1,4 +1,4 @@
-// What the table programs print: numbers, refusals, and the answer of a call that fills a buffer, on standard output.
+// What the programs print on standard output: numbers, texts, refusals, and the answer of a call that fills a buffer.
 use libc::STDOUT_FILENO;
 use refusals::FillAnswer;
 use refusals::Refusal;
@@ -9,11 +9,21 @@ pub fn print_number(number: u64, after: &[u8]) {
     io::write_all(STDOUT_FILENO, after);
 }
 
-// A line of text: REFUSED, the number, the place.
+// The text that a call put at the front of `text`, in one write; nothing where it was refused.
+pub fn print_text(answer: FillAnswer, text: &[u8]) {
+    let FillAnswer::Count(count) = answer else {
+        return;
+    };
+    if count <= text.len() {
+        io::write_all(STDOUT_FILENO, &text[..count]);
+    }
+}
+
+// A line of text: REFUSED, the number, the place; 17 bytes are enough.
 pub fn print_refusal(refusal: Refusal) {
-    io::write_all(STDOUT_FILENO, b"REFUSED ");
-    print_number(refusal.number() as u64, b" ");
-    print_number(refusal.place() as u64, b"\n");
+    let mut text = [0u8; 17];
+    let answer = report::refusal_line(refusal, &mut text);
+    print_text(answer, &text);
 }
 
 // A line of text: the count, or the refusal.
