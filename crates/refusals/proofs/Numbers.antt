@@ -4,7 +4,7 @@ use mathlib.Core.Logic.{⊎-elim}
 use mathlib.Core.Bool.{Bool}
 use Prim.Native.Nat.{ℕ, zero, suc, _≤_, _<_}
 use native.Mathlib.Omega.{arith}
-use Rattle.refusals.specs.Outcomes.{Outcome, passed, refused, need, _▹_, firstOf}
+use Rattle.refusals.specs.Outcomes.{Outcome, refused, need, _▹_, firstOf}
 use Rattle.refusals.proofs.Joining.{never, refused-by, need-refused}
 
 -- A refusal has a number from `least` to `most`, and a place up to `far`.

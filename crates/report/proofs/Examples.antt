@@ -1,7 +1,6 @@
 -- Texts by computation: document 01's case 1 as printed there, other stations and refusals, and the caller's bytes. Assumes nothing.
 use mathlib.Core.Path.{_≡_, refl}
-use mathlib.Core.List.{List, [], _∷_, _++_}
-use Prim.Native.Nat.{ℕ}
+use mathlib.Core.List.{[], _∷_, _++_}
 use lib.ListN.{replicate}
 use Rattle.refusals.specs.Filling.{filled, unfilled}
 use Rattle.report.specs.Numbers.{ascii, digitsWithin, decimal, metres}

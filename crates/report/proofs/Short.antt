@@ -7,7 +7,7 @@ use native.Mathlib.Omega.{arith}
 use lib.Dec.{eqb}
 use lib.ListN.{length, getD}
 use borrow.Author.Tests.{eqb-true, eqb-false}
-use Rattle.report.specs.Numbers.{ascii, decimal, metres}
+use Rattle.report.specs.Numbers.{ascii, decimal}
 use Rattle.report.specs.Text.{nameAt, curveAt, lineAt, linesTo, stationList, refusalLine}
 use Rattle.report.proofs.Digits.{decimal-short}
 use Rattle.report.proofs.Names.{name-length, end-name, end-curve, point-name, point-curve}

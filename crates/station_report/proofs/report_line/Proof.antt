@@ -1,12 +1,10 @@
 -- `report_line` meets its contract. Assumes nothing.
-use mathlib.Core.Path.{_≡_, sym, _∙_, ap, subst}
-use mathlib.Core.List.{List}
-use Prim.Native.Nat.{ℕ, _≤_}
+use mathlib.Core.Path.{sym, _∙_, ap}
+use Prim.Native.Nat.{ℕ}
 use borrow.Author.Needs.{needs}
-use lib.ListN.{length, take, replicate, length-replicate}
+use lib.ListN.{length-replicate}
 use lib.Seq.{length-take-le}
 use Rattle.refusals.specs.Filling.{fillReplyOf}
-use Rattle.report.specs.Text.{stationList}
 use Rattle.station_report.proofs.Texts.{same-text, refused-text, counted-within, counted-text}
 use Rattle.station_report.proofs.report_line.Statement.{statement}
 use Rattle.station_report.proofs.report_line.Tie as tie

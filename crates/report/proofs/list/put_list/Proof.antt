@@ -7,7 +7,7 @@ use native.Mathlib.Omega.{arith}
 use borrow.Author.Needs.{needs}
 use lib.ListN.{length}
 use Rattle.report.specs.Numbers.{ascii}
-use Rattle.report.specs.Text.{words, heading, lineAt, linesTo, stationList}
+use Rattle.report.specs.Text.{words, heading, linesTo, stationList}
 use Rattle.report.specs.Pieces.{Wrote}
 use Rattle.report.proofs.Lengths.{lines-more, all-lines, list-length}
 use Rattle.report.proofs.Pieces.{wrote-none, wrote-both, wrote-as}

@@ -1,6 +1,4 @@
 -- `metres_length` meets its contract. Assumes nothing.
-use mathlib.Core.List.{_++_}
-use Prim.Native.Nat.{_/_, _%_}
 use native.Mathlib.Omega.{arith}
 use borrow.Author.Needs.{needs}
 use Rattle.report.proofs.Lengths.{metres-length}

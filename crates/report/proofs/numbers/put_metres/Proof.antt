@@ -1,12 +1,9 @@
 -- `put_metres` meets its contract. Assumes nothing.
-use mathlib.Core.Path.{sym, _∙_, ap}
-use mathlib.Core.List.{_++_}
+use mathlib.Core.Path.{ap}
 use Prim.Native.Nat.{_%_, _≤_}
-use native.Mathlib.Nat.{mod-lt}
 use native.Mathlib.Omega.{arith}
 use borrow.Author.Needs.{needs}
 use lib.ListN.{length}
-use Rattle.io.specs.Digits.{digits}
 use Rattle.report.specs.Numbers.{ascii, decimal, metres}
 use Rattle.report.proofs.Digits.{digits-length, six-decimals, seven-digits}
 use Rattle.report.proofs.Lengths.{metres-length}
