@@ -7,6 +7,8 @@ use native.Mathlib.Omega.{arith}
 use lib.ListN.{length, take, drop, length-append, length-drop, take-append-drop, drop-of-length-le}
 use lib.Seq.{take-all, take-length, drop-drop, length-take-le, take-at, drop-at}
 use borrow.Rule.Slice.PartMut.{midOf, putMid}
+use Rattle.report.specs.Numbers.{ascii}
+use Rattle.report.specs.Text.{words}
 use Rattle.report.specs.Pieces.{Wrote}
 
 -- Nothing is put.
@@ -29,6 +31,14 @@ wrote-both {b₀} {b₁} {b₂} {x} {y} {p} {q} {r} h k l =
 -- The same piece, said otherwise.
 pub wrote-as : {b₀ b₁ x y : List ℕ} {p q : ℕ} → Wrote b₀ b₁ p q x → x ≡ y → Wrote b₀ b₁ p q y
 wrote-as {b₀} {b₁} {x} {y} {p} {q} w e = subst (Wrote b₀ b₁ p q) e w
+
+-- Three words, each with what stands behind it.
+pub words-of : (a b c : List ℕ) → a ++ ascii " " ++ (b ++ ascii " ") ++ (c ++ ascii "\n") ≡ words a b c
+unfolding words
+words-of a b c =
+    let first = a ++ ascii " " in
+    sym (append-assoc (first ++ (b ++ ascii " ")) c (ascii "\n"))
+    ∙ ap (λ (front : List ℕ). front ++ c ++ ascii "\n") (sym (append-assoc first b (ascii " ")))
 
 -- A copy to the front of what lies from `at` on.
 pub copied : (xs piece part : List ℕ) (at n : ℕ) → at + length piece ≤ length xs → n ≡ length piece

@@ -1,9 +1,11 @@
 // The list of a row's stations.
 ghost use mathlib.Core.Path.{_≡_};
+ghost use mathlib.Core.List.{_++_};
 ghost use Prim.Native.Nat.{_+_, _≤_, _<_};
 ghost use lib.Dec.{leb};
 ghost use lib.ListN.{length};
 ghost use Rattle.refusals.specs.Filling.{fillReplyOf};
+ghost use Rattle.report.specs.Numbers.{ascii};
 ghost use Rattle.report.specs.Text.{nameAt, curveAt, lineAt, stationList, textAnswer, textBytes};
 ghost use Rattle.report.specs.Pieces.{Wrote};
 use crate::numbers::decimal_length;
@@ -66,21 +68,21 @@ fn list_fits(row: &[u64], room: usize) -> bool
     true
 }
 
-// The name of number i of a row of `count` numbers, from index `at` on.
+// The name of number i of a row of `count` numbers and the space after it, from index `at` on.
 fn put_name(text: &mut [u8], at: usize, count: usize, i: usize) -> usize
     requires { ⌜ i < count ⌝ }
-    requires { ⌜ at + length (nameAt count i) ≤ length (now text) ⌝ }
-    ensures { λ r. ⌜ Wrote (now (text .entry)) (now (text .exit)) at r (nameAt count i) ⌝ }
+    requires { ⌜ at + length (nameAt count i) + 1 ≤ length (now text) ⌝ }
+    ensures { λ r. ⌜ Wrote (now (text .entry)) (now (text .exit)) at r (nameAt count i ++ ascii " ") ⌝ }
 {
     if i + 1 == count {
-        return put(&mut *text, at, b"END");
+        return put(&mut *text, at, b"END ");
     }
     let turn = i % 4;
     match turn {
-        0 => put(&mut *text, at, b"TS"),
-        1 => put(&mut *text, at, b"SC"),
-        2 => put(&mut *text, at, b"CS"),
-        _ => put(&mut *text, at, b"ST"),
+        0 => put(&mut *text, at, b"TS "),
+        1 => put(&mut *text, at, b"SC "),
+        2 => put(&mut *text, at, b"CS "),
+        _ => put(&mut *text, at, b"ST "),
     }
 }
 
@@ -94,11 +96,9 @@ fn put_line(row: &[u64], i: usize, text: &mut [u8], at: usize) -> usize
     let curve = curve_at(count, i);
     let station = row[i];
     let p1 = put_name(&mut *text, at, count, i);
-    let p2 = put(&mut *text, p1, b" ");
-    let p3 = put_decimal(&mut *text, p2, curve);
-    let p4 = put(&mut *text, p3, b" ");
-    let p5 = put_metres(&mut *text, p4, station);
-    put(&mut *text, p5, b"\n")
+    let p2 = put_decimal(&mut *text, p1, curve, b" ");
+    let p3 = put_metres(&mut *text, p2, station);
+    put(&mut *text, p3, b"\n")
 }
 
 // The list at the front of bytes that are enough. Answers its length.

@@ -1,5 +1,6 @@
 // Pieces of text and numbers in the caller's bytes, one after the other.
 ghost use mathlib.Core.Path.{_≡_};
+ghost use mathlib.Core.List.{_++_};
 ghost use Prim.Native.Nat.{_+_, _≤_};
 ghost use lib.ListN.{length};
 ghost use Rattle.report.specs.Numbers.{decimal as Numbers·decimal, metres};
@@ -21,14 +22,15 @@ pub(crate) fn decimal_length(n: u64) -> usize
     io::decimal(n, &mut digits)
 }
 
-// A number in decimal digits, from index `at` on.
-pub(crate) fn put_decimal(text: &mut [u8], at: usize, n: u64) -> usize
-    requires { ⌜ at + length (Numbers·decimal n) ≤ length (now text) ⌝ }
-    ensures { λ r. ⌜ Wrote (now (text .entry)) (now (text .exit)) at r (Numbers·decimal n) ⌝ }
+// A number in decimal digits and what stands after it, from index `at` on.
+pub(crate) fn put_decimal(text: &mut [u8], at: usize, n: u64, after: &[u8]) -> usize
+    requires { ⌜ at + length (Numbers·decimal n) + length (now after) ≤ length (now text) ⌝ }
+    ensures { λ r. ⌜ Wrote (now (text .entry)) (now (text .exit)) at r (Numbers·decimal n ++ now (after .entry)) ⌝ }
 {
     let mut digits = [0u8; 20];
     let count = io::decimal(n, &mut digits);
-    put(&mut *text, at, &digits[..count])
+    let end = put(&mut *text, at, &digits[..count]);
+    put(&mut *text, end, after)
 }
 
 // How long a station is in metres.
@@ -45,7 +47,6 @@ pub(crate) fn put_metres(text: &mut [u8], at: usize, station: u64) -> usize
 {
     let mut digits = [0u8; 20];
     io::decimal(1000000 + station % 1000000, &mut digits);
-    let whole = put_decimal(&mut *text, at, station / 1000000);
-    let point = put(&mut *text, whole, b".");
+    let point = put_decimal(&mut *text, at, station / 1000000, b".");
     put(&mut *text, point, &digits[1..7])
 }

@@ -18,10 +18,8 @@ fn put_refusal(number: u64, place: u64, text: &mut [u8]) -> usize
     ensures { λ r. ⌜ Wrote (now (text .entry)) (now (text .exit)) 0 r (refusalLine number place) ⌝ }
 {
     let p1 = put(&mut *text, 0, b"REFUSED ");
-    let p2 = put_decimal(&mut *text, p1, number);
-    let p3 = put(&mut *text, p2, b" ");
-    let p4 = put_decimal(&mut *text, p3, place);
-    put(&mut *text, p4, b"\n")
+    let p2 = put_decimal(&mut *text, p1, number, b" ");
+    put_decimal(&mut *text, p2, place, b"\n")
 }
 
 // A refusal as document 01's programs print it, at the front of `text`: `REFUSED`, number, place. Answers the length of the text,

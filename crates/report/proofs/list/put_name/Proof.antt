@@ -1,19 +1,26 @@
 -- `put_name` meets its contract. Assumes nothing.
 use mathlib.Core.Path.{_≡_, sym, _∙_, ap}
+use mathlib.Core.List.{List, _++_}
 use Prim.Native.Nat.{ℕ, _+_, _%_, _≤_}
 use native.Mathlib.Omega.{arith}
 use borrow.Author.Needs.{needs}
 use lib.ListN.{length}
 use Rattle.report.specs.Numbers.{ascii}
 use Rattle.report.specs.Text.{pointName, nameAt}
+use Rattle.report.specs.Pieces.{Wrote}
 use Rattle.report.proofs.Names.{name-length, end-name, point-name}
 use Rattle.report.proofs.Pieces.{wrote-as}
 use Rattle.report.proofs.list.put_name.Statement.{statement}
 use Rattle.report.proofs.list.put_name.Tie as tie
 
--- A name of two letters has room.
-two-letters : (count i at size : ℕ) → (i + 1 ≡ count → ⊥) → at + length (nameAt count i) ≤ size → at + 2 ≤ size
+-- Two letters and a space have room.
+two-letters : (count i at size : ℕ) → (i + 1 ≡ count → ⊥) → at + length (nameAt count i) + 1 ≤ size → at + 3 ≤ size
 two-letters count i at size n h = omega (arith, h, ap length (point-name count i n), name-length (i % 4))
+
+-- They are the name of the point whose turn it is.
+wrote-name : {b₀ b₁ : List ℕ} {at end : ℕ} (count i turn : ℕ) → Wrote b₀ b₁ at end (pointName turn ++ ascii " ") → (i + 1 ≡ count → ⊥) → i % 4 ≡ turn
+    → Wrote b₀ b₁ at end (nameAt count i ++ ascii " ")
+wrote-name count i turn w n e = wrote-as w (ap (λ (name : List ℕ). name ++ ascii " ") (sym (point-name count i n ∙ ap pointName e)))
 
 add-if1 : tie.Need-add-if1
 add-if1 c = search needs
@@ -32,7 +39,7 @@ same-length c = search needs
 
 returns : tie.Need-returns
 unfolding ascii
-returns c = wrote-as (c .before .before .put .ensures) (sym (end-name _ _ (c .before .before .before .before .before .if1 .taken)))
+returns c = wrote-as (c .before .before .put .ensures) (ap (λ (name : List ℕ). name ++ ascii " ") (sym (end-name _ _ (c .before .before .before .before .before .if1 .taken))))
 
 slice-aggregate-put-2 : tie.Need-slice-aggregate-put-2
 slice-aggregate-put-2 c = search needs
@@ -63,21 +70,21 @@ same-length-2 c = search needs
 
 returns-2 : tie.Need-returns-2
 unfolding pointName ascii
-returns-2 c = wrote-as (c .before .before .put2 .ensures) (sym (point-name _ _ (c .before .before .before .before .before .before .if1 .left) ∙ ap pointName (c .before .before .before .before .before .match .keys1)))
+returns-2 c = wrote-name _ _ 0 (c .before .before .put2 .ensures) (c .before .before .before .before .before .before .if1 .left) (c .before .before .before .before .before .match .keys1)
 
 same-length-3 : tie.Need-same-length-3
 same-length-3 c = search needs
 
 returns-3 : tie.Need-returns-3
 unfolding pointName ascii
-returns-3 c = wrote-as (c .before .before .put3 .ensures) (sym (point-name _ _ (c .before .before .before .before .before .before .if1 .left) ∙ ap pointName (c .before .before .before .before .before .match .keys2)))
+returns-3 c = wrote-name _ _ 1 (c .before .before .put3 .ensures) (c .before .before .before .before .before .before .if1 .left) (c .before .before .before .before .before .match .keys2)
 
 same-length-4 : tie.Need-same-length-4
 same-length-4 c = search needs
 
 returns-4 : tie.Need-returns-4
 unfolding pointName ascii
-returns-4 c = wrote-as (c .before .before .put4 .ensures) (sym (point-name _ _ (c .before .before .before .before .before .before .if1 .left) ∙ ap pointName (c .before .before .before .before .before .match .keys3)))
+returns-4 c = wrote-name _ _ 2 (c .before .before .put4 .ensures) (c .before .before .before .before .before .before .if1 .left) (c .before .before .before .before .before .match .keys3)
 
 same-length-5 : tie.Need-same-length-5
 same-length-5 c = search needs
@@ -86,8 +93,7 @@ returns-5 : tie.Need-returns-5
 unfolding pointName ascii
 returns-5 c =
     let rest = c .before .before .before .before .before .match .rest in
-    let turn : c .before .before .before .before .before .before .before .before .args .i % 4 ≡ 3 = omega (arith, rest .1, rest .0 .1, rest .0 .0 .1) in
-    wrote-as (c .before .before .put5 .ensures) (sym (point-name _ _ (c .before .before .before .before .before .before .if1 .left) ∙ ap pointName turn))
+    wrote-name _ _ 3 (c .before .before .put5 .ensures) (c .before .before .before .before .before .before .if1 .left) (omega (arith, rest .1, rest .0 .1, rest .0 .0 .1))
 
 pub put-name-spec : {M : Type 1} → statement M
 put-name-spec =

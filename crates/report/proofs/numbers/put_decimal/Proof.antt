@@ -1,9 +1,11 @@
 -- `put_decimal` meets its contract. Assumes nothing.
 use mathlib.Core.Path.{_∙_}
+use Prim.Native.Nat.{_≤_}
 use native.Mathlib.Omega.{arith}
 use borrow.Author.Needs.{needs}
+use lib.ListN.{length}
 use Rattle.report.proofs.Digits.{decimal-digits, decimal-length}
-use Rattle.report.proofs.Pieces.{wrote-as}
+use Rattle.report.proofs.Pieces.{wrote-both, wrote-as}
 use Rattle.report.proofs.numbers.put_decimal.Statement.{statement}
 use Rattle.report.proofs.numbers.put_decimal.Tie as tie
 
@@ -18,17 +20,24 @@ slice-aggregate-put c = search needs
 
 put-requires : tie.Need-put-requires
 put-requires c κs =
-    let start = c .before .before .before .before .before in
     let digits = c .before .before .decimal .ensures in
-    omega (arith, start .pre, digits .0 .1, decimal-length _ _ (digits .1 .0))
+    omega (arith, c .before .before .before .before .before .before .pre, digits .0 .1, decimal-length _ _ (digits .1 .0))
+
+put-requires-2 : tie.Need-put-requires-2
+put-requires-2 c κs =
+    let digits = c .before .before .before .before .before .before .decimal .ensures in
+    let first = c .before .before .before .put in
+    omega (arith, c .before .before .before .before .before .before .before .before .before .before .pre, digits .0 .1, decimal-length _ _ (digits .1 .0), first .ensures .ends, first .kept .0)
 
 same-length : tie.Need-same-length
 same-length c = search needs
 
 returns : tie.Need-returns
 returns c =
-    let digits = c .before .before .before .before .before .decimal .ensures in
-    wrote-as (c .before .before .put .ensures) (digits .1 .1 ∙ decimal-digits _ _ (digits .1 .0))
+    let start = c .before .before .before .before .before .before .before .before .before .before .before .before .before in
+    let inside : start .args .at ≤ length (start .args .text .now) = omega (arith, start .pre) in
+    let digits = c .before .before .before .before .before .before .before .before .before .decimal .ensures in
+    wrote-both inside (wrote-as (c .before .before .before .before .before .before .put .ensures) (digits .1 .1 ∙ decimal-digits _ _ (digits .1 .0))) (c .before .before .put2 .ensures)
 
 pub put-decimal-spec : {M : Type 1} → statement M
 put-decimal-spec =
@@ -38,5 +47,6 @@ put-decimal-spec =
     array-share-prefix-digits
     slice-aggregate-put
     put-requires
+    put-requires-2
     same-length
     returns)
