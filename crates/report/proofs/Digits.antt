@@ -8,7 +8,7 @@ use native.Mathlib.Omega.{arith}
 use lib.Dec.{ltb}
 use lib.ListN.{length, take, drop, length-append}
 use lib.Seq.{drop-append-le}
-use borrow.Author.Tests.{lt-ltb, le-ltb}
+use borrow.Author.Tests.{ltb-true, lt-ltb, le-ltb}
 use Rattle.io.specs.Digits.{glyph, digits, Fewest}
 use Rattle.report.specs.Numbers.{oneOrMore, digitsWithin, decimal}
 
@@ -17,14 +17,14 @@ digits-length b zero n = refl
 digits-length b (suc k) n = length-append (digits b k (n / b)) (glyph (n % b) ∷ []) ∙ omega (arith, digits-length b k (n / b))
 
 -- Without the first digit: the last k.
-pub less-first : (b k n : ℕ) → drop 1 (digits b (suc k) n) ≡ digits b k n
+less-first : (b k n : ℕ) → drop 1 (digits b (suc k) n) ≡ digits b k n
 less-first b zero n = refl
 less-first b (suc k) n =
     drop-append-le 1 (digits b (suc k) (n / b)) (glyph (n % b) ∷ []) (omega (arith, digits-length b (suc k) (n / b)))
     ∙ ap (λ (front : List ℕ). front ++ (glyph (n % b) ∷ [])) (less-first b k (n / b))
 
 -- Digits in front of the last k change nothing.
-pub last-digits : (b k q n : ℕ) → 0 < b → digits b k (q * b ^ k + n) ≡ digits b k n
+last-digits : (b k q n : ℕ) → 0 < b → digits b k (q * b ^ k + n) ≡ digits b k n
 last-digits b zero q n p = refl
 last-digits b (suc k) q n p =
     let e : q * b ^ suc k + n ≡ q * b ^ k * b + n = simp (pow-suc, ← mul-assoc) in
@@ -34,12 +34,12 @@ last-digits b (suc k) q n p =
     ∙ (λ j. digits b k (front j) ++ (glyph (last j) ∷ []))
     ∙ ap (λ (f : List ℕ). f ++ (glyph (n % b) ∷ [])) (last-digits b k q (n / b) p)
 
-power-pos : (k : ℕ) → 0 < 10 ^ k
+pub power-pos : (k : ℕ) → 0 < 10 ^ k
 power-pos zero = omega arith
 power-pos (suc k) = omega (arith, power-pos k, pow-suc 10 k)
 
 -- The fewest digits that hold a number are as many as the definition counts.
-pub fewest-digits : (fuel n k : ℕ) → n ≤ fuel → Fewest 10 1 n k → digitsWithin fuel n ≡ k
+fewest-digits : (fuel n k : ℕ) → n ≤ fuel → Fewest 10 1 n k → digitsWithin fuel n ≡ k
 unfolding digitsWithin
 fewest-digits fuel n zero h few = absurd (omega (arith, few .0))
 fewest-digits zero n (suc zero) h few = refl
@@ -55,6 +55,16 @@ fewest-digits (suc fuel) n (suc (suc j)) h few =
     omega (arith, e, least) in
     rw (le-ltb n 10 (omega (arith, least, pow-suc 10 j, power-pos j)))
     (ap suc (fewest-digits fuel (n / 10) (suc j) (omega (arith, least, power-pos (suc j))) (omega arith, omega (arith, few .1, pow-suc 10 (suc j)), tenth)))
+
+either-holds : (b : Bool) (f : ℕ → ℕ) (n : ℕ) → ltb n 10 ≡ b → n / 10 < 10 ^ f (n / 10) → n < 10 ^ oneOrMore b f n
+either-holds true f n e h = ltb-true n 10 e
+either-holds false f n e h = omega (arith, h, pow-suc 10 (f (n / 10)))
+
+-- So many digits hold the number.
+pub digits-hold : (fuel n : ℕ) → n ≤ fuel → n < 10 ^ digitsWithin fuel n
+unfolding digitsWithin
+digits-hold zero n h = omega arith
+digits-hold (suc fuel) n h = either-holds (ltb n 10) (digitsWithin fuel) n refl (digits-hold fuel (n / 10) (omega arith))
 
 -- So they are its decimal text.
 pub decimal-digits : (n k : ℕ) → Fewest 10 1 n k → digits 10 k n ≡ decimal n

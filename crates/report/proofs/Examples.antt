@@ -4,13 +4,13 @@ use mathlib.Core.List.{[], _∷_, _++_}
 use lib.ListN.{replicate}
 use Rattle.refusals.specs.Filling.{filled, unfilled}
 use Rattle.report.specs.Numbers.{ascii, digitsWithin, decimal, metres}
-use Rattle.report.specs.Text.{words, heading, pointName, nameAt, curveAt, lineAt, linesTo, stationList, refusalLine, textOutcome, textAnswer, textBytes}
+use Rattle.report.specs.Text.{words, heading, turnName, pointName, pointCurve, pointLine, pointLines, stationList, refusalLine, textOutcome, textAnswer, textBytes}
 
 pub record Examples : Type 0 where
   pub case-1 : stationList (319010722 ∷ 359010722 ∷ 620649189 ∷ 660649189 ∷ 879659911 ∷ [])
       ≡ ascii "POINT CURVE STATION\nTS 1 319.010722\nSC 1 359.010722\nCS 1 620.649189\nST 1 660.649189\nEND 0 879.659911\n"
   pub no-curve : stationList (500000000 ∷ []) ≡ ascii "POINT CURVE STATION\nEND 0 500.000000\n"
-  pub second-curve : lineAt (1 ∷ 2 ∷ 3 ∷ 4 ∷ 5 ∷ 6 ∷ 7 ∷ 8 ∷ 9 ∷ []) 6 ≡ ascii "CS 2 0.000007\n"
+  pub second-curve : pointLine (1 ∷ 2 ∷ 3 ∷ 4 ∷ 5 ∷ 6 ∷ 7 ∷ 8 ∷ 9 ∷ []) 6 ≡ ascii "CS 2 0.000007\n"
   pub first-station : metres 0 ≡ ascii "0.000000"
   pub short-straight : metres 1722 ≡ ascii "0.001722"
   pub greatest : metres 18446744073709551615 ≡ ascii "18446744073709.551615"
@@ -23,7 +23,7 @@ pub record Examples : Type 0 where
   pub remainder : textBytes (refusalLine 1 0) (replicate 14 7) ≡ ascii "REFUSED 1 0\n" ++ (7 ∷ 7 ∷ [])
 
 pub examples : Examples
-unfolding ascii digitsWithin decimal metres words heading pointName nameAt curveAt lineAt linesTo stationList refusalLine textOutcome textAnswer textBytes
+unfolding ascii digitsWithin decimal metres words heading turnName pointName pointCurve pointLine pointLines stationList refusalLine textOutcome textAnswer textBytes
 examples =
     record {
       case-1 = refl;

@@ -7,7 +7,7 @@ use native.Mathlib.Omega.{arith}
 use lib.ListN.{length, getD, length-append}
 use Rattle.io.specs.Digits.{digits}
 use Rattle.report.specs.Numbers.{ascii, decimal, metres}
-use Rattle.report.specs.Text.{words, heading, nameAt, curveAt, lineAt, linesTo, stationList, refusalLine}
+use Rattle.report.specs.Text.{words, heading, pointName, pointCurve, pointLine, pointLines, stationList, refusalLine}
 use Rattle.report.proofs.Digits.{digits-length}
 
 pub metres-length : (station : ℕ) → length (metres station) ≡ length (decimal (station / 1000000)) + 7
@@ -20,7 +20,7 @@ metres-length station =
       digits-length 10 6 (station % 1000000),
     )
 
-pub words-length : (a b c : List ℕ) → length (words a b c) ≡ length a + length b + length c + 3
+words-length : (a b c : List ℕ) → length (words a b c) ≡ length a + length b + length c + 3
 unfolding words ascii
 words-length a b c =
     omega (
@@ -33,28 +33,28 @@ words-length a b c =
     )
 
 pub line-length : (row : List ℕ) (i : ℕ)
-    → length (lineAt row i) ≡ length (nameAt (length row) i) + length (decimal (curveAt (length row) i)) + length (metres (getD row i 0)) + 3
-unfolding lineAt
-line-length row i = words-length (nameAt (length row) i) (decimal (curveAt (length row) i)) (metres (getD row i 0))
+    → length (pointLine row i) ≡ length (pointName (length row) i) + length (decimal (pointCurve (length row) i)) + length (metres (getD row i 0)) + 3
+unfolding pointLine
+line-length row i = words-length (pointName (length row) i) (decimal (pointCurve (length row) i)) (metres (getD row i 0))
 
 -- One line more.
-pub lines-more : (row : List ℕ) (i : ℕ) → length (linesTo row (suc i)) ≡ length (linesTo row i) + length (lineAt row i)
-unfolding linesTo
-lines-more row i = length-append (linesTo row i) (lineAt row i)
+pub lines-more : (row : List ℕ) (i : ℕ) → length (pointLines row (suc i)) ≡ length (pointLines row i) + length (pointLine row i)
+unfolding pointLines
+lines-more row i = length-append (pointLines row i) (pointLine row i)
 
 -- The first lines are no longer than all.
-pub lines-grow : (row : List ℕ) (i k : ℕ) → length (linesTo row i) ≤ length (linesTo row (i + k))
+lines-grow : (row : List ℕ) (i k : ℕ) → length (pointLines row i) ≤ length (pointLines row (i + k))
 lines-grow row i zero = rw add-zero (omega arith)
 lines-grow row i (suc k) = rw (add-suc i k, lines-more row (i + k)) (omega (arith, lines-grow row i k))
 
-pub all-lines : (row : List ℕ) (i : ℕ) → i ≤ length row → length (linesTo row i) ≤ length (linesTo row (length row))
+pub all-lines : (row : List ℕ) (i : ℕ) → i ≤ length row → length (pointLines row i) ≤ length (pointLines row (length row))
 all-lines row i h =
     let e : i + (length row - i) ≡ length row = omega arith in
-    subst (λ (n : ℕ). length (linesTo row i) ≤ length (linesTo row n)) e (lines-grow row i (length row - i))
+    subst (λ (n : ℕ). length (pointLines row i) ≤ length (pointLines row n)) e (lines-grow row i (length row - i))
 
-pub list-length : (row : List ℕ) → length (stationList row) ≡ 20 + length (linesTo row (length row))
+pub list-length : (row : List ℕ) → length (stationList row) ≡ 20 + length (pointLines row (length row))
 unfolding stationList heading words ascii
-list-length row = length-append heading (linesTo row (length row))
+list-length row = length-append heading (pointLines row (length row))
 
 pub refusal-length : (number place : ℕ) → length (refusalLine number place) ≡ length (decimal number) + length (decimal place) + 10
 unfolding refusalLine ascii

@@ -7,3 +7,4 @@ pub mod WaysOut
 pub mod Replies
 pub mod Short
 pub mod Examples
+pub mod ReadBack

@@ -8,7 +8,7 @@ use lib.Dec.{eqb}
 use lib.ListN.{length, getD}
 use borrow.Author.Tests.{eqb-true, eqb-false}
 use Rattle.report.specs.Numbers.{ascii, decimal}
-use Rattle.report.specs.Text.{nameAt, curveAt, lineAt, linesTo, stationList, refusalLine}
+use Rattle.report.specs.Text.{pointName, pointCurve, pointLine, pointLines, stationList, refusalLine}
 use Rattle.report.proofs.Digits.{decimal-short}
 use Rattle.report.proofs.Names.{name-length, end-name, end-curve, point-name, point-curve}
 use Rattle.report.proofs.Lengths.{metres-length, line-length, lines-more, list-length, refusal-length}
@@ -16,7 +16,7 @@ use Rattle.report.proofs.Lengths.{metres-length, line-length, lines-mor
 module _ (row : List ℕ) (few : length row ≤ 257) (low : (k : ℕ) → getD row k 0 < 10 ^ 13) where
   -- Name and curve: `END` and 0, or two letters and a number up to 64.
   label-short : (i : ℕ) → i < length row → (b : Bool) → eqb (suc i) (length row) ≡ b
-      → length (nameAt (length row) i) + length (decimal (curveAt (length row) i)) ≤ 4
+      → length (pointName (length row) i) + length (decimal (pointCurve (length row) i)) ≤ 4
   unfolding ascii
   label-short i h true e =
       let end : i + 1 ≡ length row = omega (arith, eqb-true (suc i) (length row) e) in
@@ -37,7 +37,7 @@ module _ (row : List ℕ) (few : length row ≤ 257) (low : (k : ℕ) → getD r
         decimal-short (suc (i / 4)) 1 (omega (arith, apart)),
       )
 
-  line-short : (i : ℕ) → i < length row → length (lineAt row i) ≤ 21
+  line-short : (i : ℕ) → i < length row → length (pointLine row i) ≤ 21
   line-short i h =
       omega (
         arith,
@@ -47,8 +47,8 @@ module _ (row : List ℕ) (few : length row ≤ 257) (low : (k : ℕ) → getD r
         decimal-short (getD row i 0 / 1000000) 6 (omega (arith, low i)),
       )
 
-  lines-short : (i : ℕ) → i ≤ length row → length (linesTo row i) ≤ 21 * i
-  unfolding linesTo
+  lines-short : (i : ℕ) → i ≤ length row → length (pointLines row i) ≤ 21 * i
+  unfolding pointLines
   lines-short zero h = omega arith
   lines-short (suc i) h = omega (arith, lines-more row i, lines-short i (omega arith), line-short i (omega arith))
 

@@ -17,32 +17,32 @@ unfoldable pub heading : List ℕ
 heading = words (ascii "POINT") (ascii "CURVE") (ascii "STATION")
 
 -- The names of a curve's points in their order.
-unfoldable pub pointName : ℕ → List ℕ
-pointName zero = ascii "TS"
-pointName (suc zero) = ascii "SC"
-pointName (suc (suc zero)) = ascii "CS"
-pointName (suc (suc (suc turn))) = ascii "ST"
+unfoldable pub turnName : ℕ → List ℕ
+turnName zero = ascii "TS"
+turnName (suc zero) = ascii "SC"
+turnName (suc (suc zero)) = ascii "CS"
+turnName (suc (suc (suc turn))) = ascii "ST"
 
 -- The name of number i of a row of `count` numbers: "TS, SC, CS, ST of each curve in order, then the end"
-unfoldable pub nameAt : (count i : ℕ) → List ℕ
-nameAt count i = cond (eqb (suc i) count) (ascii "END") (pointName (i % 4))
+unfoldable pub pointName : (count i : ℕ) → List ℕ
+pointName count i = cond (eqb (suc i) count) (ascii "END") (turnName (i % 4))
 
 -- Its curve; "The end has curve 0."
-unfoldable pub curveAt : (count i : ℕ) → ℕ
-curveAt count i = cond (eqb (suc i) count) 0 (suc (i / 4))
+unfoldable pub pointCurve : (count i : ℕ) → ℕ
+pointCurve count i = cond (eqb (suc i) count) 0 (suc (i / 4))
 
 -- Its line: "point name, curve number and station in metres"
-unfoldable pub lineAt : List ℕ → ℕ → List ℕ
-lineAt row i = words (nameAt (length row) i) (decimal (curveAt (length row) i)) (metres (getD row i 0))
+unfoldable pub pointLine : List ℕ → ℕ → List ℕ
+pointLine row i = words (pointName (length row) i) (decimal (pointCurve (length row) i)) (metres (getD row i 0))
 
 -- The lines of the first i numbers.
-unfoldable pub linesTo : List ℕ → ℕ → List ℕ
-linesTo row zero = []
-linesTo row (suc i) = linesTo row i ++ lineAt row i
+unfoldable pub pointLines : List ℕ → ℕ → List ℕ
+pointLines row zero = []
+pointLines row (suc i) = pointLines row i ++ pointLine row i
 
 -- "the heading, then ..": the text of a row of stations
 unfoldable pub stationList : List ℕ → List ℕ
-stationList row = heading ++ linesTo row (length row)
+stationList row = heading ++ pointLines row (length row)
 
 -- "`REFUSED`, number, place, one space between"
 unfoldable pub refusalLine : (number place : ℕ) → List ℕ

@@ -6,7 +6,7 @@ ghost use lib.Dec.{leb};
 ghost use lib.ListN.{length};
 ghost use Rattle.refusals.specs.Filling.{fillReplyOf};
 ghost use Rattle.report.specs.Numbers.{ascii};
-ghost use Rattle.report.specs.Text.{nameAt, curveAt, lineAt, stationList, textAnswer, textBytes};
+ghost use Rattle.report.specs.Text.{pointName, pointCurve, pointLine, stationList, textAnswer, textBytes};
 ghost use Rattle.report.specs.Pieces.{Wrote};
 use crate::numbers::decimal_length;
 use crate::numbers::metres_length;
@@ -19,7 +19,7 @@ use refusals::Refusal;
 // The curve of number i of a row of `count` numbers; the end has 0.
 fn curve_at(count: usize, i: usize) -> u64
     requires { ⌜ i < count ⌝ }
-    ensures { λ r. ⌜ r ≡ curveAt count i ⌝ }
+    ensures { λ r. ⌜ r ≡ pointCurve count i ⌝ }
 {
     if i + 1 == count {
         0
@@ -31,7 +31,7 @@ fn curve_at(count: usize, i: usize) -> u64
 // How long its name is.
 fn name_length(count: usize, i: usize) -> usize
     requires { ⌜ i < count ⌝ }
-    ensures { λ r. ⌜ (r ≡ length (nameAt count i)) × (r ≤ 3) ⌝ }
+    ensures { λ r. ⌜ (r ≡ length (pointName count i)) × (r ≤ 3) ⌝ }
 {
     if i + 1 == count { 3 } else { 2 }
 }
@@ -39,7 +39,7 @@ fn name_length(count: usize, i: usize) -> usize
 // How long the line of number i is.
 fn line_length(row: &[u64], i: usize) -> usize
     requires { ⌜ i < length (now row) ⌝ }
-    ensures { λ r. ⌜ r ≡ length (lineAt (now (row .entry)) i) ⌝ }
+    ensures { λ r. ⌜ r ≡ length (pointLine (now (row .entry)) i) ⌝ }
 {
     let count = row.len();
     let name = name_length(count, i);
@@ -71,8 +71,8 @@ fn list_fits(row: &[u64], room: usize) -> bool
 // The name of number i of a row of `count` numbers and the space after it, from index `at` on.
 fn put_name(text: &mut [u8], at: usize, count: usize, i: usize) -> usize
     requires { ⌜ i < count ⌝ }
-    requires { ⌜ at + length (nameAt count i) + 1 ≤ length (now text) ⌝ }
-    ensures { λ r. ⌜ Wrote (now (text .entry)) (now (text .exit)) at r (nameAt count i ++ ascii " ") ⌝ }
+    requires { ⌜ at + length (pointName count i) + 1 ≤ length (now text) ⌝ }
+    ensures { λ r. ⌜ Wrote (now (text .entry)) (now (text .exit)) at r (pointName count i ++ ascii " ") ⌝ }
 {
     if i + 1 == count {
         return put(&mut *text, at, b"END ");
@@ -89,8 +89,8 @@ fn put_name(text: &mut [u8], at: usize, count: usize, i: usize) -> usize
 // The line of number i, from index `at` on.
 fn put_line(row: &[u64], i: usize, text: &mut [u8], at: usize) -> usize
     requires { ⌜ i < length (now row) ⌝ }
-    requires { ⌜ at + length (lineAt (now row) i) ≤ length (now text) ⌝ }
-    ensures { λ r. ⌜ Wrote (now (text .entry)) (now (text .exit)) at r (lineAt (now (row .entry)) i) ⌝ }
+    requires { ⌜ at + length (pointLine (now row) i) ≤ length (now text) ⌝ }
+    ensures { λ r. ⌜ Wrote (now (text .entry)) (now (text .exit)) at r (pointLine (now (row .entry)) i) ⌝ }
 {
     let count = row.len();
     let curve = curve_at(count, i);

@@ -6,7 +6,7 @@ use native.Mathlib.Omega.{arith}
 use borrow.Author.Needs.{needs}
 use lib.ListN.{length, getD, length-append}
 use Rattle.report.specs.Numbers.{ascii, decimal, metres}
-use Rattle.report.specs.Text.{nameAt, curveAt, lineAt}
+use Rattle.report.specs.Text.{pointName, pointCurve, pointLine}
 use Rattle.report.proofs.Lengths as lengths
 use Rattle.report.proofs.Pieces.{wrote-both, wrote-as, words-of}
 use Rattle.report.proofs.list.put_line.Statement.{statement}
@@ -42,7 +42,7 @@ put-decimal-requires c κs =
       lengths.line-length row (start .args .i),
       named .ensures .ends,
       named .kept .0,
-      length-append (nameAt (length row) (start .args .i)) (ascii " "),
+      length-append (pointName (length row) (start .args .i)) (ascii " "),
       ap (λ (n : ℕ). length (decimal n)) (c .before .before .before .before .before .before .before .curve-at .ensures),
     )
 
@@ -59,7 +59,7 @@ put-metres-requires c κs =
       lengths.line-length row (start .args .i),
       named .ensures .ends,
       named .kept .0,
-      length-append (nameAt (length row) (start .args .i)) (ascii " "),
+      length-append (pointName (length row) (start .args .i)) (ascii " "),
       numbered .ensures .ends,
       numbered .kept .0,
       length-append (decimal (c .before .before .before .before .before .before .before .before .before .before .before .curve-at .result)) (ascii " "),
@@ -83,7 +83,7 @@ put-requires c κs =
       lengths.line-length row (start .args .i),
       named .ensures .ends,
       named .kept .0,
-      length-append (nameAt (length row) (start .args .i)) (ascii " "),
+      length-append (pointName (length row) (start .args .i)) (ascii " "),
       numbered .ensures .ends,
       numbered .kept .0,
       length-append (decimal (c .before .before .before .before .before .before .before .before .before .before .before .before .before .before .before .before .curve-at .result)) (ascii " "),
@@ -96,7 +96,7 @@ same-length : tie.Need-same-length
 same-length c = search needs
 
 returns : tie.Need-returns
-unfolding lineAt ascii
+unfolding pointLine ascii
 returns c =
     let start = c .before .before .before .before .before .before .before .before .before .before .before .before .before .before .before .before .before .before .before .before .before .before in
     let i = start .args .i in
@@ -105,8 +105,8 @@ returns c =
     let curve = ap (λ (n : ℕ). decimal n ++ ascii " ") (c .before .before .before .before .before .before .before .before .before .before .before .before .before .before .before .before .before .before .before .curve-at .ensures) in
     let label = wrote-both inside (c .before .before .before .before .before .before .before .before .before .before .before .before .before .before .before .before .put-name .ensures) (wrote-as (c .before .before .before .before .before .before .before .before .before .before .before .put-decimal .ensures) curve) in
     let all = wrote-both inside (wrote-both inside label (c .before .before .before .before .before .before .before .put-metres .ensures)) (c .before .before .put .ensures) in
-    let name = nameAt (length row) i in
-    let number = decimal (curveAt (length row) i) in
+    let name = pointName (length row) i in
+    let number = decimal (pointCurve (length row) i) in
     wrote-as all (append-assoc (name ++ ascii " " ++ (number ++ ascii " ")) (metres (getD row i 0)) (ascii "\n") ∙ words-of name number (metres (getD row i 0)))
 
 pub put-line-spec : {M : Type 1} → statement M

@@ -6,7 +6,7 @@ use native.Mathlib.Omega.{arith}
 use borrow.Author.Needs.{needs}
 use lib.ListN.{length}
 use Rattle.report.specs.Numbers.{ascii}
-use Rattle.report.specs.Text.{pointName, nameAt}
+use Rattle.report.specs.Text.{turnName, pointName}
 use Rattle.report.specs.Pieces.{Wrote}
 use Rattle.report.proofs.Names.{name-length, end-name, point-name}
 use Rattle.report.proofs.Pieces.{wrote-as}
@@ -14,13 +14,13 @@ use Rattle.report.proofs.list.put_name.Statement.{statement}
 use Rattle.report.proofs.list.put_name.Tie as tie
 
 -- Two letters and a space have room.
-two-letters : (count i at size : ℕ) → (i + 1 ≡ count → ⊥) → at + length (nameAt count i) + 1 ≤ size → at + 3 ≤ size
+two-letters : (count i at size : ℕ) → (i + 1 ≡ count → ⊥) → at + length (pointName count i) + 1 ≤ size → at + 3 ≤ size
 two-letters count i at size n h = omega (arith, h, ap length (point-name count i n), name-length (i % 4))
 
 -- They are the name of the point whose turn it is.
-wrote-name : {b₀ b₁ : List ℕ} {at end : ℕ} (count i turn : ℕ) → Wrote b₀ b₁ at end (pointName turn ++ ascii " ") → (i + 1 ≡ count → ⊥) → i % 4 ≡ turn
-    → Wrote b₀ b₁ at end (nameAt count i ++ ascii " ")
-wrote-name count i turn w n e = wrote-as w (ap (λ (name : List ℕ). name ++ ascii " ") (sym (point-name count i n ∙ ap pointName e)))
+wrote-name : {b₀ b₁ : List ℕ} {at end : ℕ} (count i turn : ℕ) → Wrote b₀ b₁ at end (turnName turn ++ ascii " ") → (i + 1 ≡ count → ⊥) → i % 4 ≡ turn
+    → Wrote b₀ b₁ at end (pointName count i ++ ascii " ")
+wrote-name count i turn w n e = wrote-as w (ap (λ (name : List ℕ). name ++ ascii " ") (sym (point-name count i n ∙ ap turnName e)))
 
 add-if1 : tie.Need-add-if1
 add-if1 c = search needs
@@ -69,28 +69,28 @@ same-length-2 : tie.Need-same-length-2
 same-length-2 c = search needs
 
 returns-2 : tie.Need-returns-2
-unfolding pointName ascii
+unfolding turnName ascii
 returns-2 c = wrote-name _ _ 0 (c .before .before .put2 .ensures) (c .before .before .before .before .before .before .if1 .left) (c .before .before .before .before .before .match .keys1)
 
 same-length-3 : tie.Need-same-length-3
 same-length-3 c = search needs
 
 returns-3 : tie.Need-returns-3
-unfolding pointName ascii
+unfolding turnName ascii
 returns-3 c = wrote-name _ _ 1 (c .before .before .put3 .ensures) (c .before .before .before .before .before .before .if1 .left) (c .before .before .before .before .before .match .keys2)
 
 same-length-4 : tie.Need-same-length-4
 same-length-4 c = search needs
 
 returns-4 : tie.Need-returns-4
-unfolding pointName ascii
+unfolding turnName ascii
 returns-4 c = wrote-name _ _ 2 (c .before .before .put4 .ensures) (c .before .before .before .before .before .before .if1 .left) (c .before .before .before .before .before .match .keys3)
 
 same-length-5 : tie.Need-same-length-5
 same-length-5 c = search needs
 
 returns-5 : tie.Need-returns-5
-unfolding pointName ascii
+unfolding turnName ascii
 returns-5 c =
     let rest = c .before .before .before .before .before .match .rest in
     wrote-name _ _ 3 (c .before .before .put5 .ensures) (c .before .before .before .before .before .before .if1 .left) (omega (arith, rest .1, rest .0 .1, rest .0 .0 .1))
