@@ -10,7 +10,7 @@ pub fn print_number(number: u64, after: &[u8]) {
 }
 
 // The text that a call put at the front of `text`, in one write; nothing where it was refused.
-pub fn print_text(answer: FillAnswer, text: &[u8]) {
+fn print_text(answer: FillAnswer, text: &[u8]) {
     let FillAnswer::Count(count) = answer else {
         return;
     };

@@ -5,7 +5,8 @@ use native.Mathlib.Omega.{arith}
 use Rattle.refusals.specs.Outcomes.{Outcome, passed, refused}
 use Rattle.refusals.specs.Filling.{filled, unfilled, countAfter}
 
-never : {A : Type 0} (count n p : ℕ) → filled count ≡ unfilled n p → A
+-- No answer is both.
+pub never : {A : Type 0} (count n p : ℕ) → filled count ≡ unfilled n p → A
 never count n p e = let z : _≡_ {A = ℕ} 0 1 = cc in absurd (omega arith)
 
 -- A count: every check passed, and it is the whole count.

@@ -1,12 +1,13 @@
 -- No sheet's text is longer than 5,417 bytes, so that so many lent bytes are never refused. Assumes nothing.
-use mathlib.Core.Path.{_≡_, refl}
+use mathlib.Core.Path.{_≡_, refl, sym, _∙_}
 use mathlib.Core.List.{List}
 use Prim.Native.Nat.{ℕ, _≤_, _<_}
 use native.Mathlib.Omega.{arith}
 use lib.ListN.{length}
 use borrow.Author.Tests.{le-leb}
 use Rattle.refusals.specs.Outcomes.{Outcome, passed, refused, _▹_}
-use Rattle.refusals.specs.Filling.{filled}
+use Rattle.refusals.specs.Filling.{filled, unfilled}
+use Rattle.refusals.proofs.Filled.{never}
 use Rattle.refusals.proofs.Numbers.{Refuses, joined-numbers, wider}
 use Rattle.refusals.proofs.Joining.{passed-right}
 use Rattle.line.specs.declared.Line.{Line}
@@ -49,7 +50,10 @@ fits sheet =
     (wider (alignmentOutcome line) (alignment-numbers line) (omega arith) (omega arith) (count-short (lineOf firstEdition sheet) read seven-bits)))
     (passed-right read (alignmentOutcome line))
 
--- So the station program's bytes are always enough.
-pub always-given : (sheet : List ℕ) (room : ℕ) → 5417 ≤ room → textAnswer (sheetText sheet) room ≡ filled (length (sheetText sheet))
+-- So many lent bytes are never refused.
+pub never-refused : (sheet : List ℕ) (room : ℕ) {n p : ℕ} {A : Type 0} → textAnswer (sheetText sheet) room ≡ unfilled n p → 5417 ≤ room → A
 unfolding textAnswer textOutcome
-always-given sheet room h = rw (le-leb (length (sheetText sheet)) room (omega (arith, fits sheet))) refl
+never-refused sheet room {n} {p} e h =
+    let given : textAnswer (sheetText sheet) room ≡ filled (length (sheetText sheet)) =
+    rw (le-leb (length (sheetText sheet)) room (omega (arith, fits sheet))) refl in
+    never (length (sheetText sheet)) n p (sym given ∙ e)

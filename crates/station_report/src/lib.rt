@@ -1,6 +1,7 @@
 // A sheet's stations as text: reader, calculator and report, one after the other (document 01, "The station program").
 ghost use mathlib.Core.Path.{_≡_};
-ghost use lib.ListN.{length};
+ghost use lib.ListN.{length, take};
+ghost use Rattle.io.specs.Counts.{Counts};
 ghost use Rattle.refusals.specs.Filling.{fillReplyOf};
 ghost use Rattle.report.specs.Text.{textAnswer, textBytes};
 ghost use Rattle.station_report.specs.Report.{lineText, sheetText};
@@ -23,7 +24,7 @@ fn report_line(line: Line, text: &mut [u8]) -> FillAnswer
 
 // What the station program prints for the bytes of a sheet, at the front of `text`: the list of stations, in metres with six
 // decimals, or the line of the first refusal of reader and calculator. Any bytes are taken. Answers the length of the text, or
-// refusal 16, which leaves `text` as it was; 5,417 bytes are enough for every sheet (`proofs/Fits.antt`).
+// refusal 16, which leaves `text` as it was.
 pub fn report_sheet(sheet: &[u8], text: &mut [u8]) -> FillAnswer
     ensures answer { λ a. ⌜ fillReplyOf a ≡ textAnswer (sheetText (now (sheet .entry))) (length (now (text .entry))) ⌝ }
     ensures memory { λ _. ⌜ now (text .exit) ≡ textBytes (sheetText (now (sheet .entry))) (now (text .entry)) ⌝ }
@@ -34,4 +35,25 @@ pub fn report_sheet(sheet: &[u8], text: &mut [u8]) -> FillAnswer
         Verdict::Pass => report_line(read.line, &mut *text),
         Verdict::Refused(refusal) => report::refusal_line(refusal, &mut *text),
     }
+}
+
+// So many bytes hold the text of every sheet (`proofs/Fits.antt`).
+pub const ROOM: usize = 5417;
+
+// The text of a sheet: the first `length` bytes of `text`.
+pub struct Report {
+    pub text: [u8; ROOM],
+    pub length: usize,
+}
+
+// What the station program prints for the bytes of a sheet. Any bytes are taken, and 16 never comes.
+pub fn whole_report(sheet: &[u8]) -> Report
+    ensures { λ r. ⌜ Counts (r .length) (r .text) × (take (r .length) (r .text) ≡ sheetText (now (sheet .entry))) ⌝ }
+{
+    let mut text = [0u8; ROOM];
+    let answer = report_sheet(sheet, &mut text);
+    let FillAnswer::Count(length) = answer else {
+        return Report { text, length: 0 };
+    };
+    Report { text, length }
 }
