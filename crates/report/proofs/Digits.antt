@@ -56,23 +56,23 @@ fewest-digits (suc fuel) n (suc (suc j)) h few =
     rw (le-ltb n 10 (omega (arith, least, pow-suc 10 j, power-pos j)))
     (ap suc (fewest-digits fuel (n / 10) (suc j) (omega (arith, least, power-pos (suc j))) (omega arith, omega (arith, few .1, pow-suc 10 (suc j)), tenth)))
 
-either-holds : (b : Bool) (f : ℕ → ℕ) (n : ℕ) → ltb n 10 ≡ b → n / 10 < 10 ^ f (n / 10) → n < 10 ^ oneOrMore b f n
-either-holds true f n e h = ltb-true n 10 e
-either-holds false f n e h = omega (arith, h, pow-suc 10 (f (n / 10)))
-
--- So many digits hold the number.
-pub digits-hold : (fuel n : ℕ) → n ≤ fuel → n < 10 ^ digitsWithin fuel n
-unfolding digitsWithin
-digits-hold zero n h = omega arith
-digits-hold (suc fuel) n h = either-holds (ltb n 10) (digitsWithin fuel) n refl (digits-hold fuel (n / 10) (omega arith))
-
--- So they are its decimal text.
+-- So the digits that `io` makes are the decimal text.
 pub decimal-digits : (n k : ℕ) → Fewest 10 1 n k → digits 10 k n ≡ decimal n
 unfolding decimal
 decimal-digits n k few = ap (λ (m : ℕ). digits 10 m n) (sym (fewest-digits n n k (omega arith) few))
 
 pub decimal-length : (n k : ℕ) → Fewest 10 1 n k → k ≡ length (decimal n)
 decimal-length n k few = sym (digits-length 10 k n) ∙ ap length (decimal-digits n k few)
+
+either-holds : (b : Bool) (f : ℕ → ℕ) (n : ℕ) → ltb n 10 ≡ b → n / 10 < 10 ^ f (n / 10) → n < 10 ^ oneOrMore b f n
+either-holds true f n e h = ltb-true n 10 e
+either-holds false f n e h = omega (arith, h, pow-suc 10 (f (n / 10)))
+
+-- The digits that are counted hold the number.
+pub digits-hold : (fuel n : ℕ) → n ≤ fuel → n < 10 ^ digitsWithin fuel n
+unfolding digitsWithin
+digits-hold zero n h = omega arith
+digits-hold (suc fuel) n h = either-holds (ltb n 10) (digitsWithin fuel) n refl (digits-hold fuel (n / 10) (omega arith))
 
 either-way : (b : Bool) (f : ℕ → ℕ) (n : ℕ) {most : ℕ} → f (n / 10) ≤ most → oneOrMore b f n ≤ suc most
 either-way true f n h = omega arith
