@@ -11,10 +11,12 @@ use Rattle.elements.specs.Answer.{answered, declined, valuesBy, arcOutco
 pub record Examples : Type 0 where
   pub case-1 : elementReply 177764 350000 40000
       ≡ answered (record { X = pos 39986940; Y = pos 761727; k = pos 19997823; p = pos 190454; D = pos 261638467; TT = pos 180989278 })
-  pub case-6 : arcOf 23574 350000 40000 ≡ pos 1491
+  pub case-6 : elementReply 23574 350000 40000
+      ≡ answered (record { X = pos 39986940; Y = pos 761727; k = pos 19997823; p = pos 190454; D = pos 1491; TT = pos 40031263 })
   pub case-7 : arcOf 23573 350000 40000 ≡ negsuc 204
   pub case-7-refused : elementReply 23573 350000 40000 ≡ declined 14 0
-  pub case-8 : arcOf 1 350000 0 ≡ pos 1696
+  pub case-8 : elementReply 1 350000 0
+      ≡ answered (record { X = pos 0; Y = pos 0; k = pos 0; p = pos 0; D = pos 1696; TT = pos 848 })
   pub case-8-short : arcOf 1 200000 0 ≡ pos 969
   pub case-8-refused : elementReply 1 200000 0 ≡ declined 14 0
 

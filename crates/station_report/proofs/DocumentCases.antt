@@ -40,6 +40,7 @@ pub record DocumentCases : Type 0 where
       ≡ answered (record { X = pos 39986940; Y = pos 761727; k = pos 19997823; p = pos 190454; D = pos 261638467; TT = pos 180989278 })
   pub case-1-read : readOutcome firstEdition sheet1 ≡ passed
   pub case-1-line : readLine firstEdition sheet1 ≡ caseLine 500000 350000 40000
+  pub case-1-accepted : stationsAnswer (caseLine 500000 350000 40000) 7 ≡ filled 5
   pub case-1-stations : stationsRow (caseLine 500000 350000 40000) row
       ≡ 319010722 ∷ 359010722 ∷ 620649189 ∷ 660649189 ∷ 879659911 ∷ 6 ∷ 7 ∷ []
   pub case-1-printed : sheetText sheet1
@@ -51,14 +52,17 @@ pub record DocumentCases : Type 0 where
   pub case-5-passes : radiusServes 70 8 167751 ≡ true
   pub case-5-refused : radiusServes 70 8 167750 ≡ false
   pub case-5-line-refused : stationsAnswer (caseLine 500000 167750 0) 5 ≡ unfilled 12 1
-  pub case-6 : arcOf 23574 350000 40000 ≡ pos 1491
+  pub case-6 : elementReply 23574 350000 40000
+      ≡ answered (record { X = pos 39986940; Y = pos 761727; k = pos 19997823; p = pos 190454; D = pos 1491; TT = pos 40031263 })
   pub case-7 : arcOf 23573 350000 40000 ≡ negsuc 204
   pub case-7-refused : elementReply 23573 350000 40000 ≡ declined 14 0
-  pub case-8 : arcOf 1 350000 0 ≡ pos 1696
+  pub case-8 : elementReply 1 350000 0
+      ≡ answered (record { X = pos 0; Y = pos 0; k = pos 0; p = pos 0; D = pos 1696; TT = pos 848 })
   pub case-8-short : arcOf 1 200000 0 ≡ pos 969
   pub case-8-refused : elementReply 1 200000 0 ≡ declined 14 0
   pub case-9-read : readOutcome firstEdition sheet9 ≡ passed
   pub case-9-line : readLine firstEdition sheet9 ≡ noCurve
+  pub case-9-accepted : stationsAnswer noCurve 1 ≡ filled 1
   pub case-9-end : stationsRow noCurve (7 ∷ []) ≡ 500000000 ∷ []
   pub case-9-printed : sheetText sheet9 ≡ ascii "POINT CURVE STATION\nEND 0 500.000000\n"
 
@@ -73,6 +77,7 @@ document-cases =
       case-1-elements = curves.examples .case-1;
       case-1-read = read1 .0;
       case-1-line = read1 .1;
+      case-1-accepted = lines.examples .case-1;
       case-1-stations = lines.examples .case-1-row;
       case-1-printed =
           read-text sheet1 (read1 .0)
@@ -94,6 +99,7 @@ document-cases =
       case-8-refused = curves.examples .case-8-refused;
       case-9-read = sheets.examples .case-9-read;
       case-9-line = sheets.examples .case-9-line;
+      case-9-accepted = lines.examples .case-9;
       case-9-end = lines.examples .case-9-row;
       case-9-printed =
           read-text sheet9 (sheets.examples .case-9-read)

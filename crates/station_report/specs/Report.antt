@@ -1,6 +1,7 @@
 -- Document 01's "The station program": what it prints for the bytes of a sheet.
-use mathlib.Core.List.{List}
+use mathlib.Core.List.{List, _++_}
 use Prim.Native.Nat.{ℕ}
+use lib.ListN.{length, drop, replicate}
 use Rattle.refusals.specs.Outcomes.{Outcome, passed, refused, _▹_}
 use Rattle.line.specs.declared.Line.{Line}
 use Rattle.sheet.specs.Layout.{firstEdition}
@@ -25,3 +26,7 @@ sheetOutcome sheet = readOutcome firstEdition sheet ▹ alignmentOutcome (readLi
 -- The text of a sheet.
 unfoldable pub sheetText : List ℕ → List ℕ
 sheetText sheet = answerText (sheetOutcome sheet) (stationRow (readLine firstEdition sheet))
+
+-- The text in 5,417 bytes, zeros behind it; no sheet needs more (`proofs/Fits.antt`).
+unfoldable pub wholeText : List ℕ → List ℕ
+wholeText sheet = sheetText sheet ++ drop (length (sheetText sheet)) (replicate 5417 0)

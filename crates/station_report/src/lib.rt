@@ -1,10 +1,10 @@
 // A sheet's stations as text: reader, calculator and report, one after the other (document 01, "The station program").
 ghost use mathlib.Core.Path.{_≡_};
-ghost use lib.ListN.{length, take};
+ghost use lib.ListN.{length};
 ghost use Rattle.io.specs.Counts.{Counts};
 ghost use Rattle.refusals.specs.Filling.{fillReplyOf};
 ghost use Rattle.report.specs.Text.{textAnswer, textBytes};
-ghost use Rattle.station_report.specs.Report.{lineText, sheetText};
+ghost use Rattle.station_report.specs.Report.{lineText, sheetText, wholeText};
 use line::Line;
 use refusals::FillAnswer;
 use refusals::Verdict;
@@ -40,7 +40,7 @@ pub fn report_sheet(sheet: &[u8], text: &mut [u8]) -> FillAnswer
 // So many bytes hold the text of every sheet (`proofs/Fits.antt`).
 pub const ROOM: usize = 5417;
 
-// The text of a sheet: the first `length` bytes of `text`.
+// The text of a sheet: the first `length` bytes of `text`; those behind them are zero.
 pub struct Report {
     pub text: [u8; ROOM],
     pub length: usize,
@@ -48,7 +48,9 @@ pub struct Report {
 
 // What the station program prints for the bytes of a sheet. Any bytes are taken, and 16 never comes.
 pub fn whole_report(sheet: &[u8]) -> Report
-    ensures { λ r. ⌜ Counts (r .length) (r .text) × (take (r .length) (r .text) ≡ sheetText (now (sheet .entry))) ⌝ }
+    ensures text { λ r. ⌜ r .text ≡ wholeText (now (sheet .entry)) ⌝ }
+    ensures size { λ r. ⌜ r .length ≡ length (sheetText (now (sheet .entry))) ⌝ }
+    ensures within { λ r. ⌜ Counts (r .length) (r .text) ⌝ }
 {
     let mut text = [0u8; ROOM];
     let answer = report_sheet(sheet, &mut text);

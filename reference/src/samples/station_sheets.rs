@@ -181,7 +181,7 @@ mod tests {
     use std::sync::LazyLock;
 
     /// The list that make-samples stores.
-    static LIST: LazyLock<Vec<Vec<u8>>> = LazyLock::new(|| list(2, 5_400));
+    static LIST: LazyLock<Vec<Vec<u8>>> = LazyLock::new(|| list(2, 6_000));
 
     /// Count of stations, or refusal, of each sheet.
     static ANSWERS: LazyLock<Vec<Result<usize, Refusal>>> = LazyLock::new(|| {
@@ -206,9 +206,15 @@ mod tests {
     #[test]
     fn count_and_seed() {
         assert_eq!(list(2, 0).len(), 0);
-        assert_eq!(LIST.len(), 5_400);
+        assert_eq!(LIST.len(), 6_000);
         assert_eq!(list(2, 1_500)[..], LIST[..1_500]);
         assert_ne!(list(3, 1_500)[..], LIST[..1_500]);
+    }
+
+    #[test]
+    fn most_are_random() {
+        let fixed = document_cases().len() + edges(&mut Dice::new(2)).len();
+        assert!(LIST.len() >= fixed + 5_000, "{fixed} are not random");
     }
 
     #[test]

@@ -5,6 +5,7 @@ use borrow.Author.Needs.{needs}
 use lib.Seq.{length-take-le}
 use Rattle.refusals.specs.Filling.{fillReplyOf}
 use Rattle.report.proofs.Replies.{given-text}
+use Rattle.station_report.specs.Report.{wholeText}
 use Rattle.station_report.proofs.Fits.{never-refused}
 use Rattle.station_report.proofs.whole_report.Statement.{statement}
 use Rattle.station_report.proofs.whole_report.Tie as tie
@@ -27,10 +28,11 @@ returns c =
     never-refused _ _ (sym (called .ensures .0) ∙ ap fillReplyOf (c .enum-told .given .1)) (omega arith)
 
 returns-2 : tie.Need-returns-2
+unfolding wholeText
 returns-2 c =
     let called = c .before .before .before .before .report-sheet in
     let given = given-text _ _ (called .ensures .1) (sym (called .ensures .0) ∙ ap fillReplyOf (c .before .answer .given .1)) in
-    ((given .room, sym (length-take-le _ _ (given .room))), given .front)
+    (given .whole, (given .all, (given .room, sym (length-take-le _ _ (given .room)))))
 
 pub whole-report-spec : {M : Type 1} → statement M
 whole-report-spec =
