@@ -7,6 +7,7 @@ use lib.IntN.{pos}
 use lib.Signed.{leZ}
 use Rattle.numbers.proofs.Ranges.{at-least, at-most}
 use Rattle.refusals.specs.declared.Refusal.{Refusal}
+use Rattle.refusals.specs.Table.{numberOf, placeOf}
 use Rattle.refusals.specs.Outcomes.{Outcome, passed, refused, need}
 use Rattle.refusals.proofs.Joining.{passed-left}
 use Rattle.line.specs.Checks.{curveOutcome}
@@ -72,3 +73,15 @@ refused-arc A R L r place ok h =
     go : (t : Bool) → replyOf (Refused r) ≡ replyTo (need t 14 0) (valuesBy A R L) → need t 14 place ≡ refused 14 place
     go true q = never (valuesBy A R L) _ _ (sym q)
     go false q = refl
+
+-- A refusal that is answered is the checks'.
+pub refused-elements : (A R L : ℕ) (r : Refusal) → replyOf (Refused r) ≡ elementReply A R L → elementOutcome A R L ≡ refused (numberOf r) (placeOf r)
+unfolding elementReply
+refused-elements A R L r h = go (elementOutcome A R L) h
+  where
+    go : (o : Outcome) → replyOf (Refused r) ≡ replyTo o (valuesBy A R L) → o ≡ refused (numberOf r) (placeOf r)
+    go passed q = never (valuesBy A R L) _ _ (sym q)
+    go (refused n p) q =
+        let number : n ≡ numberOf r = cc in
+        let place : p ≡ placeOf r = cc in
+        λ j. refused (number j) (place j)

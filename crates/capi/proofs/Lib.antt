@@ -1,0 +1,4 @@
+-- Laws of the calls for C and Rust.
+pub mod Replies
+pub mod Rewriting
+pub mod AnswersTold

@@ -1,0 +1,36 @@
+-- What the calls write, from the bytes of a sheet or the numbers of a curve.
+use mathlib.Core.List.{List, [], _∷_}
+use Prim.Native.Nat.{ℕ}
+use lib.IntN.{natAbs}
+use lib.ListN.{length}
+use Rattle.refusals.specs.Filling.{FillReply, countAfter}
+use Rattle.sheet.specs.Layout.{firstEdition}
+use Rattle.sheet.specs.Reading.{readLine}
+use Rattle.sheet.specs.Writing.{sheetOf}
+use Rattle.elements.specs.declared.Elements.{Elements}
+use Rattle.elements.specs.Answer.{Values, valuesBy}
+use Rattle.calculator.specs.Stations.{stationRow}
+use Rattle.station_report.specs.Report.{sheetOutcome}
+
+-- The stations of a sheet's line.
+unfoldable pub sheetStations : List ℕ → List ℕ
+sheetStations sheet = stationRow (readLine firstEdition sheet)
+
+-- What the check of a sheet says: how many stations it has, or the first refusal of reader and calculator.
+unfoldable pub checkReply : List ℕ → FillReply
+checkReply sheet = countAfter (sheetOutcome sheet) (length (sheetStations sheet))
+
+-- "a sheet read and written again"
+unfoldable pub rewritten : List ℕ → List ℕ
+rewritten sheet = sheetOf firstEdition (readLine firstEdition sheet)
+
+-- "The element call returns X, Y, k, p, D, TT."; where it answers none is negative.
+unfoldable pub elementNumbers : (A R L : ℕ) → List ℕ
+elementNumbers A R L = natAbs (v .X) ∷ natAbs (v .Y) ∷ natAbs (v .k) ∷ natAbs (v .p) ∷ natAbs (v .D) ∷ natAbs (v .TT) ∷ []
+  where
+    v : Values
+    v = valuesBy A R L
+
+-- The same of elements that were answered.
+abbrev pub numbersOf : Elements → List ℕ
+numbersOf e = e .x ∷ e .y ∷ e .centre ∷ e .shift ∷ e .arc ∷ e .tangent ∷ []
