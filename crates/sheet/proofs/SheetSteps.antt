@@ -20,18 +20,17 @@ unfolding entriesAfter
 entry-after line i x = rw (add-one i)
 
 -- Head, entries, last distance and fill are written: the bytes are the sheet's, and the others as before.
-pub sheet-written : (E : Edition) (line : Line) {lent b₁ b₂ b₃ b₄ b : List ℕ} {p₁ p₂ p₃ p₄ q : Pen} {i width : ℕ}
+pub sheet-written : (E : Edition) (line : Line) {lent b₁ b₂ b₃ b₄ b : List ℕ} {p₁ p₂ p₃ p₄ q : Pen} {width : ℕ}
     → Put lent b₁ newPen p₁ (total (headWidths E)) (λ x. packed x (headWidths E) (headValues E line))
-    → Put b₁ b₂ p₁ p₂ (total entryWidths * i) (entriesAfter line i)
+    → Put b₁ b₂ p₁ p₂ (total entryWidths * line .count) (entriesAfter line (line .count))
     → Put b₂ b₃ p₂ p₃ distanceWidth (λ x. x * 2 ^ distanceWidth + distanceAt line (line .count))
     → Put b₃ b₄ p₃ p₄ width (λ x. x * 2 ^ width + 0)
     → Put b₄ b p₄ q 0 (λ x. x)
-    → i ≡ line .count → width ≡ fillWidth E (line .count) → q .held < 8
+    → width ≡ fillWidth E (line .count) → q .held < 8
     → byteCount E (line .count) ≤ length lent → length b ≡ length lent → Bytes b
     → b ≡ sheetOf E line ++ drop (byteCount E (line .count)) lent
 unfolding sheetOf sheetNumber numberTo packed
-sheet-written E line head entries last fill flushed n w few room same bytes =
+sheet-written E line head entries last fill flushed w few room same bytes =
     let n′ = line .count in
-    let entries′ = put-as {g = entriesAfter line n′} entries (ap (λ (k : ℕ). total entryWidths * k) n) (λ x. ap (λ (k : ℕ). entriesAfter line k x) n) in
     let fill′ = put-as {g = λ x. x * 2 ^ fillWidth E n′ + 0} fill w (λ x. ap (λ (k : ℕ). x * 2 ^ k + 0) w) in
-    bytes-written (byteCount E n′) (put-put (put-put (put-put (put-put head entries′) last) fill′) flushed) (omega arith) room few same bytes
+    bytes-written (byteCount E n′) (put-put (put-put (put-put (put-put head entries) last) fill′) flushed) (omega arith) room few same bytes

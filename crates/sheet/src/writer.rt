@@ -8,7 +8,7 @@ ghost use Rattle.refusals.specs.Filling.{fillReplyOf};
 ghost use Rattle.line.specs.Checks.{lineOutcome};
 ghost use Rattle.sheet.specs.Bits.{packed, total, Fit};
 ghost use Rattle.sheet.specs.Layout.{firstEdition, headWidths, entryWidths, byteCount};
-ghost use Rattle.sheet.specs.Writing.{sideBit, curveValues, sheetOf, writeAnswer, writeBytes};
+ghost use Rattle.sheet.specs.Writing.{sideBit, curveValues, entriesAfter, sheetOf, writeAnswer, writeBytes};
 ghost use Rattle.sheet.specs.Pens.{Put, position};
 use crate::layout::COUNT;
 use crate::layout::CROSSFALL;
@@ -73,6 +73,24 @@ fn put_entry(bytes: &mut [u8], pen: Pen, distance: u32, curve: Curve) -> Pen
     put(&mut *bytes, p4, SPIRAL, curve.spiral)
 }
 
+// The distances and curves of a line that passes, but for the last distance.
+fn put_entries(bytes: &mut [u8], pen: Pen, line: Line) -> Pen
+    requires { ⌜ lineOutcome line ≡ passed ⌝ }
+    requires { ⌜ (pen .held < 32) × (position pen + total entryWidths * line .count ≤ 8 * length (now bytes)) ⌝ }
+    ensures { λ r. ⌜ Put (now (bytes .entry)) (now (bytes .exit)) pen r (total entryWidths * line .count) (entriesAfter line (line .count)) ⌝ }
+{
+    let n = line.count;
+    let mut last = pen;
+    let mut i = 0;
+    while i < n {
+        let distance = line.distances[i];
+        let curve = line.curves[i];
+        last = put_entry(&mut *bytes, last, distance, curve);
+        i += 1;
+    }
+    last
+}
+
 // The sheet of a line that passes, at the front of bytes that are enough.
 fn write_sheet(line: Line, bytes: &mut [u8])
     requires { ⌜ lineOutcome line ≡ passed ⌝ }
@@ -85,7 +103,7 @@ fn write_sheet(line: Line, bytes: &mut [u8])
         pending: 0,
         held: 0,
     };
-    let mut pen = put_head(
+    let head = put_head(
         &mut *bytes,
         new,
         n as u32,
@@ -93,17 +111,11 @@ fn write_sheet(line: Line, bytes: &mut [u8])
         line.crossfall,
         line.start,
     );
-    let mut i = 0;
-    while i < n {
-        let distance = line.distances[i];
-        let curve = line.curves[i];
-        pen = put_entry(&mut *bytes, pen, distance, curve);
-        i += 1;
-    }
-    let last = line.distances[n];
-    pen = put(&mut *bytes, pen, DISTANCE, last);
-    pen = put(&mut *bytes, pen, 8 * byte_count(n) - bit_count(n), 0);
-    flush(&mut *bytes, pen);
+    let entries = put_entries(&mut *bytes, head, line);
+    let last = put(&mut *bytes, entries, DISTANCE, line.distances[n]);
+    let fill = 8 * byte_count(n) - bit_count(n);
+    let all = put(&mut *bytes, last, fill, 0);
+    flush(&mut *bytes, all);
 }
 
 // The sheet of a line, at the front of `bytes`. Answers its length in bytes, or the first refusal in document 01's order: 3 to
