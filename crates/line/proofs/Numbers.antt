@@ -13,7 +13,7 @@ module _ {far : ℕ} where
   unfolding distanceOutcome
   distance-numbers distance index h = one-number (within 1 20000000 distance) 8 index (omega arith) (omega arith) h
 
-  curve-numbers : (A R L place : ℕ) → place ≤ far → Refuses 3 11 far (curveOutcome A R L place)
+  pub curve-numbers : (A R L place : ℕ) → place ≤ far → Refuses 3 11 far (curveOutcome A R L place)
   unfolding curveOutcome
   curve-numbers A R L place h =
       let a = within 1 432000 A in

@@ -38,17 +38,22 @@ count-short : (line : Line) (o : Outcome) → line .count < 128 → lineAfter o 
 count-short line passed h = omega arith
 count-short line (refused n p) h = omega arith
 
-pub fits : (sheet : List ℕ) → length (sheetText sheet) ≤ 5417
-unfolding sheetText sheetOutcome readLine lineOf
-fits sheet =
+-- The refusals of reader and calculator are 1 to 15, and no place has more than seven bits.
+pub sheet-numbers : (sheet : List ℕ) → Refuses 1 15 127 (sheetOutcome sheet)
+unfolding sheetOutcome readLine lineOf
+sheet-numbers sheet =
     let read = readOutcome firstEdition sheet in
     let line = readLine firstEdition sheet in
     let seven-bits = count-below firstEdition sheet refl in
-    text-short line (read ▹ alignmentOutcome line)
-    (joined-numbers read (alignmentOutcome line)
+    joined-numbers read (alignmentOutcome line)
     (wider read (read-numbers firstEdition sheet) (omega arith) (omega arith) (omega arith))
-    (wider (alignmentOutcome line) (alignment-numbers line) (omega arith) (omega arith) (count-short (lineOf firstEdition sheet) read seven-bits)))
-    (passed-right read (alignmentOutcome line))
+    (wider (alignmentOutcome line) (alignment-numbers line) (omega arith) (omega arith) (count-short (lineOf firstEdition sheet) read seven-bits))
+
+pub fits : (sheet : List ℕ) → length (sheetText sheet) ≤ 5417
+unfolding sheetText sheetOutcome
+fits sheet =
+    let line = readLine firstEdition sheet in
+    text-short line (sheetOutcome sheet) (sheet-numbers sheet) (passed-right (readOutcome firstEdition sheet) (alignmentOutcome line))
 
 -- So many lent bytes are never refused.
 pub never-refused : (sheet : List ℕ) (room : ℕ) {n p : ℕ} {A : Type 0} → textAnswer (sheetText sheet) room ≡ unfilled n p → 5417 ≤ room → A

@@ -1,0 +1,99 @@
+//! Before a job is timed, the answers of both sides are compared for each input.
+
+use crate::baseline;
+use crate::inputs::Inputs;
+use crate::job::{Job, Task};
+use crate::library::Library;
+use crate::reference_side::Reference;
+use crate::side::Side;
+use pokyandi::SHEET_BYTES;
+use reference::curve::Curve;
+use std::fmt::Debug;
+
+/// The C baseline may differ by so much from the library, µm: document 01's
+/// bound between working rule and exact value of TT, the widest of the six.
+const BASELINE_BOUND: f64 = 300.0;
+/// Most characters of an answer in a message.
+const MOST_SHOWN: usize = 200;
+
+/// Fails when an input has two answers.
+pub fn compare(job: Job, inputs: &Inputs) -> Result<(), String> {
+    let (mut library, mut reference) = (Library::new(), Reference::new());
+    for i in 0..job.input_count(inputs) {
+        let same = match job.task {
+            Task::Elements => compare_curve(inputs.curves[i], &mut library, &mut reference),
+            task => compare_sheet(task, &job.sheets(inputs)[i], &mut library, &mut reference),
+        };
+        same.map_err(|problem| format!("{}, input {i}: {problem}", job.name))?;
+    }
+    Ok(())
+}
+
+fn compare_sheet(
+    task: Task,
+    sheet: &[u8],
+    library: &mut Library,
+    reference: &mut Reference,
+) -> Result<(), String> {
+    match task {
+        Task::Read => same(library.rewrite(sheet, 0), reference.rewrite(sheet, 0)),
+        Task::Rewrite => same(
+            library.rewrite(sheet, SHEET_BYTES),
+            reference.rewrite(sheet, SHEET_BYTES),
+        ),
+        Task::Stations => same(library.stations(sheet), reference.stations(sheet)),
+        Task::Check => same(library.check(sheet), reference.check(sheet)),
+        Task::Text => same(library.text(sheet), reference.text(sheet)),
+        Task::Elements => unreachable!("elements are compared by curve"),
+    }
+}
+
+fn compare_curve(
+    curve: Curve,
+    library: &mut Library,
+    reference: &mut Reference,
+) -> Result<(), String> {
+    same(library.elements(curve), reference.elements(curve))?;
+    same(library.kept_elements(), reference.kept_elements())?;
+    let difference = baseline_difference(curve, library);
+    if difference > BASELINE_BOUND {
+        return Err(format!(
+            "the C baseline differs by {difference:.1} µm from the library"
+        ));
+    }
+    Ok(())
+}
+
+fn same<T: PartialEq + Debug>(library: T, reference: T) -> Result<(), String> {
+    if library == reference {
+        return Ok(());
+    }
+    let shown = |answer: T| -> String { format!("{answer:?}").chars().take(MOST_SHOWN).collect() };
+    Err(format!(
+        "the library answers {}, the reference {}",
+        shown(library),
+        shown(reference)
+    ))
+}
+
+/// The largest difference between the C baseline's elements of a curve and those
+/// that the library keeps of it, µm.
+fn baseline_difference(curve: Curve, library: &Library) -> f64 {
+    let mut numbers = [0.0; 6];
+    baseline::elements(curve, &mut numbers);
+    numbers
+        .iter()
+        .zip(library.kept_elements())
+        .map(|(number, exact)| (number - exact as f64).abs())
+        .fold(0.0, f64::max)
+}
+
+/// The largest such difference of all curves.
+pub fn largest_baseline_difference(inputs: &Inputs) -> f64 {
+    let mut library = Library::new();
+    inputs.curves.iter().fold(0.0, |largest, curve| {
+        let answer = library.elements(*curve);
+        assert!(answer.is_ok(), "the curves are accepted");
+        baseline_difference(*curve, &library).max(largest)
+    })
+}

@@ -1,0 +1,150 @@
+//! The jobs: a call, and the inputs that it is made with one after the other.
+
+use crate::baseline;
+use crate::inputs::Inputs;
+use crate::side::Side;
+use pokyandi::SHEET_BYTES;
+use std::hint::black_box;
+
+/// The call of a job.
+#[derive(Clone, Copy, PartialEq, Eq)]
+pub enum Task {
+    Read,
+    Rewrite,
+    Stations,
+    Check,
+    Text,
+    Elements,
+}
+
+/// How many curves the sheets of a job have.
+#[derive(Clone, Copy, PartialEq, Eq)]
+pub enum Size {
+    Full,
+    Single,
+}
+
+#[derive(Clone, Copy)]
+pub struct Job {
+    /// A word for the command line.
+    pub name: &'static str,
+    /// What the call does.
+    pub title: &'static str,
+    pub task: Task,
+    size: Size,
+}
+
+pub const JOBS: [Job; 11] = [
+    full(
+        "read-64",
+        "read, and written to no bytes, 64 curves",
+        Task::Read,
+    ),
+    full("rewrite-64", "read and written, 64 curves", Task::Rewrite),
+    full(
+        "stations-64",
+        "read and calculated, 64 curves",
+        Task::Stations,
+    ),
+    full("check-64", "checked, 64 curves (*)", Task::Check),
+    full("text-64", "text, 64 curves", Task::Text),
+    single(
+        "read-1",
+        "read, and written to no bytes, 1 curve",
+        Task::Read,
+    ),
+    single("rewrite-1", "read and written, 1 curve", Task::Rewrite),
+    single("stations-1", "read and calculated, 1 curve", Task::Stations),
+    single("check-1", "checked, 1 curve (*)", Task::Check),
+    single("text-1", "text, 1 curve", Task::Text),
+    full("elements", "elements of one curve", Task::Elements),
+];
+
+const fn full(name: &'static str, title: &'static str, task: Task) -> Job {
+    let size = Size::Full;
+    Job {
+        name,
+        title,
+        task,
+        size,
+    }
+}
+
+const fn single(name: &'static str, title: &'static str, task: Task) -> Job {
+    let size = Size::Single;
+    Job {
+        name,
+        title,
+        task,
+        size,
+    }
+}
+
+impl Job {
+    /// The job with this name.
+    pub fn named(name: &str) -> Option<Job> {
+        JOBS.into_iter().find(|job| job.name == name)
+    }
+
+    /// The sheets of the job.
+    pub fn sheets(self, inputs: &Inputs) -> &[Vec<u8>] {
+        match self.size {
+            Size::Full => &inputs.full,
+            Size::Single => &inputs.single,
+        }
+    }
+
+    /// How many inputs the job goes through.
+    pub fn input_count(self, inputs: &Inputs) -> usize {
+        match self.task {
+            Task::Elements => inputs.curves.len(),
+            _ => self.sheets(inputs).len(),
+        }
+    }
+}
+
+/// Makes the job's call once with each input, and that `times` times.
+#[inline(never)]
+pub fn work<S: Side>(job: Job, side: &mut S, inputs: &Inputs, times: usize) {
+    for _ in 0..times {
+        match job.task {
+            Task::Elements => each_curve(side, inputs),
+            task => each_sheet(task, side, job.sheets(inputs)),
+        }
+    }
+}
+
+fn each_curve<S: Side>(side: &mut S, inputs: &Inputs) {
+    for curve in &inputs.curves {
+        keep(side.elements(*black_box(curve)));
+    }
+}
+
+fn each_sheet<S: Side>(task: Task, side: &mut S, sheets: &[Vec<u8>]) {
+    for sheet in sheets {
+        let sheet = black_box(&sheet[..]);
+        match task {
+            Task::Read => keep(side.rewrite(sheet, 0)),
+            Task::Rewrite => keep(side.rewrite(sheet, SHEET_BYTES)),
+            Task::Stations => keep(side.stations(sheet)),
+            Task::Check => keep(side.check(sheet)),
+            Task::Text => keep(side.text(sheet)),
+            Task::Elements => unreachable!("elements are worked out by curve"),
+        }
+    }
+}
+
+/// The C baseline's elements of each curve, and that `times` times.
+#[inline(never)]
+pub fn work_baseline(inputs: &Inputs, times: usize) {
+    let mut numbers = [0.0; 6];
+    for curve in (0..times).flat_map(|_| &inputs.curves) {
+        baseline::elements(*black_box(curve), &mut numbers);
+        black_box(&numbers);
+    }
+}
+
+/// Takes an answer, so that the compiler must work it out.
+fn keep<T>(answer: T) {
+    black_box(answer);
+}

@@ -1,0 +1,62 @@
+//! The proved library.
+
+use crate::side::{Answer, Refused, Side};
+use pokyandi::{Refusal, ELEMENT_NUMBERS, ROW_NUMBERS, SHEET_BYTES, TEXT_BYTES};
+use reference::curve::Curve;
+
+pub struct Library {
+    bytes: [u8; SHEET_BYTES],
+    row: [u64; ROW_NUMBERS],
+    text: [u8; TEXT_BYTES],
+    elements: [u64; ELEMENT_NUMBERS],
+}
+
+impl Library {
+    pub fn new() -> Library {
+        Library {
+            bytes: [0; SHEET_BYTES],
+            row: [0; ROW_NUMBERS],
+            text: [0; TEXT_BYTES],
+            elements: [0; ELEMENT_NUMBERS],
+        }
+    }
+}
+
+impl From<Refusal> for Refused {
+    fn from(refusal: Refusal) -> Refused {
+        Refused {
+            number: refusal.reason.number(),
+            place: refusal.place as usize,
+        }
+    }
+}
+
+impl Side for Library {
+    fn rewrite(&mut self, sheet: &[u8], room: usize) -> Answer<&[u8]> {
+        let count = pokyandi::rewrite(sheet, &mut self.bytes[..room])?;
+        Ok(&self.bytes[..count])
+    }
+
+    fn stations(&mut self, sheet: &[u8]) -> Answer<&[u64]> {
+        let count = pokyandi::stations(sheet, &mut self.row)?;
+        Ok(&self.row[..count])
+    }
+
+    fn check(&mut self, sheet: &[u8]) -> Answer<usize> {
+        Ok(pokyandi::check(sheet)?)
+    }
+
+    fn text(&mut self, sheet: &[u8]) -> Answer<&[u8]> {
+        let count = pokyandi::text(sheet, &mut self.text)?;
+        Ok(&self.text[..count])
+    }
+
+    fn elements(&mut self, Curve { a, r, l }: Curve) -> Answer<()> {
+        pokyandi::elements(a, r, l, &mut self.elements)?;
+        Ok(())
+    }
+
+    fn kept_elements(&self) -> [i128; 6] {
+        self.elements.map(i128::from)
+    }
+}

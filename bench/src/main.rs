@@ -1,0 +1,150 @@
+//! Times the proved library against the reference, and against plain C for the
+//! elements of one curve.
+
+mod arguments;
+mod baseline;
+mod compare;
+mod inputs;
+mod job;
+mod library;
+mod measure;
+mod programs;
+mod reference_side;
+mod side;
+mod table;
+
+use arguments::{Options, Request, USAGE};
+use compare::{compare, largest_baseline_difference};
+use inputs::Inputs;
+use job::{work, work_baseline, Job, Task, JOBS};
+use library::Library;
+use measure::{alternate, time, Work};
+use programs::Programs;
+use reference_side::Reference;
+use std::process::ExitCode;
+use std::time::Duration;
+
+/// The least time of a round.
+const ROUND: Duration = Duration::from_micros(500);
+const QUICK_ROUND: Duration = Duration::from_micros(100);
+
+fn main() -> ExitCode {
+    let words: Vec<String> = std::env::args().skip(1).collect();
+    let request = match arguments::read(&words) {
+        Ok(request) => request,
+        Err(problem) => {
+            eprint!("bench: {problem}\n{USAGE}");
+            return ExitCode::from(2);
+        }
+    };
+    match answer(request) {
+        Ok(()) => ExitCode::SUCCESS,
+        Err(problem) => {
+            eprintln!("bench: {problem}");
+            ExitCode::FAILURE
+        }
+    }
+}
+
+fn answer(request: Request) -> Result<(), String> {
+    match request {
+        Request::Help => print!("{USAGE}"),
+        Request::Jobs => JOBS.iter().for_each(|job| println!("{}", job.name)),
+        Request::Once { job, side, times } => once(&job, &side, times)?,
+        Request::Measure(options) => measure_all(&options)?,
+    }
+    Ok(())
+}
+
+/// Makes one side's calls of a job and prints how many they were.
+fn once(job: &str, side: &str, times: usize) -> Result<(), String> {
+    let job = Job::named(job).ok_or(format!("{job} is no job"))?;
+    let inputs = Inputs::make();
+    match (side, job.task) {
+        ("library", _) => work(job, &mut Library::new(), &inputs, times),
+        ("reference", _) => work(job, &mut Reference::new(), &inputs, times),
+        ("c", Task::Elements) => work_baseline(&inputs, times),
+        _ => return Err(format!("{side} is no side of this job")),
+    }
+    println!("{}", times * job.input_count(&inputs));
+    Ok(())
+}
+
+fn measure_all(options: &Options) -> Result<(), String> {
+    let programs = Programs::find(options)?;
+    let inputs = Inputs::make();
+    for job in JOBS {
+        compare(job, &inputs)?;
+    }
+    print_preface(options, &inputs);
+    table::print_heading();
+    for job in JOBS {
+        measure_job(job, options, &inputs)?;
+    }
+    let process = match programs {
+        Some(programs) => Some(programs::measure(&programs, options.rounds())?),
+        None => None,
+    };
+    print_notes(&inputs, process);
+    Ok(())
+}
+
+fn print_preface(options: &Options, inputs: &Inputs) {
+    let rounds = options.rounds();
+    println!("Medians of {rounds} rounds, library and reference in turn.");
+    println!("Ratio: library / reference, below 1 where the library is faster.");
+    println!("Inputs, in turn: {}.", inputs.words());
+    println!("Buffers are used again and not cleared first.");
+    println!("All answers are compared before they are timed.\n");
+}
+
+/// `process` is the time of a process that does nothing, ns, where programs were
+/// timed.
+fn print_notes(inputs: &Inputs, process: Option<f64>) {
+    println!("\n(*) The reference has no call for a check: it reads and calculates.");
+    if let Some(time) = process {
+        println!("(**) Process start dominates: `true`, which does nothing, takes {time:.0} ns.");
+    }
+    let difference = largest_baseline_difference(inputs);
+    println!("C f64: plain C with libm, no checks; at most {difference:.1} µm from the library.");
+}
+
+/// Times a job whose answers have been compared.
+fn measure_job(job: Job, options: &Options, inputs: &Inputs) -> Result<(), String> {
+    let times = times_of_a_round(job, options, inputs)?;
+    let mut works = works(job, inputs, times);
+    let calls = times * job.input_count(inputs);
+    let results = alternate(options.rounds(), calls, &mut works)?;
+    table::print_row(job.title, &results[0], &results[1], results.get(2));
+    Ok(())
+}
+
+/// The work of library and reference, and of C where it has the job.
+fn works(job: Job, inputs: &Inputs, times: usize) -> Vec<Work<'_>> {
+    let (mut library, mut reference) = (Library::new(), Reference::new());
+    let mut works = vec![
+        sure(move || work(job, &mut library, inputs, times)),
+        sure(move || work(job, &mut reference, inputs, times)),
+    ];
+    if job.task == Task::Elements {
+        works.push(sure(move || work_baseline(inputs, times)));
+    }
+    works
+}
+
+/// Work that cannot fail.
+fn sure<'a>(mut work: impl FnMut() + 'a) -> Work<'a> {
+    Box::new(move || {
+        work();
+        Ok(())
+    })
+}
+
+/// How many times a round goes through the inputs, the same for both sides.
+fn times_of_a_round(job: Job, options: &Options, inputs: &Inputs) -> Result<usize, String> {
+    let least = if options.quick { QUICK_ROUND } else { ROUND };
+    let mut works = works(job, inputs, 1);
+    alternate(2, 1, &mut works)?;
+    let once = time(&mut works[0])?.max(Duration::from_nanos(1));
+    Ok(least.as_nanos().div_ceil(once.as_nanos()) as usize)
+}

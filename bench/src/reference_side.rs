@@ -1,0 +1,78 @@
+//! The reference. It has no call of its own for a check, which is reading and
+//! calculating there; its text is a string that it allocates for each call.
+
+use crate::side::{Answer, Refused, Side};
+use pokyandi::{ROW_NUMBERS, SHEET_BYTES};
+use reference::curve::Curve;
+use reference::elements::{elements, Elements};
+use reference::refusal::Refusal;
+use reference::report::report;
+use reference::sheet;
+use reference::stations::stations;
+
+pub struct Reference {
+    bytes: [u8; SHEET_BYTES],
+    row: [u64; ROW_NUMBERS],
+    text: String,
+    elements: Elements,
+}
+
+impl Reference {
+    pub fn new() -> Reference {
+        Reference {
+            bytes: [0; SHEET_BYTES],
+            row: [0; ROW_NUMBERS],
+            text: String::new(),
+            elements: Elements {
+                x: 0,
+                y: 0,
+                k: 0,
+                p: 0,
+                d: 0,
+                tt: 0,
+            },
+        }
+    }
+}
+
+impl From<Refusal> for Refused {
+    fn from(refusal: Refusal) -> Refused {
+        Refused {
+            number: refusal.number.into(),
+            place: refusal.place,
+        }
+    }
+}
+
+impl Side for Reference {
+    fn rewrite(&mut self, sheet: &[u8], room: usize) -> Answer<&[u8]> {
+        let line = sheet::read(sheet)?;
+        let count = sheet::write(&line, &mut self.bytes[..room])?;
+        Ok(&self.bytes[..count])
+    }
+
+    fn stations(&mut self, sheet: &[u8]) -> Answer<&[u64]> {
+        let line = sheet::read(sheet)?;
+        let count = stations(&line, &mut self.row)?;
+        Ok(&self.row[..count])
+    }
+
+    fn check(&mut self, sheet: &[u8]) -> Answer<usize> {
+        Ok(self.stations(sheet)?.len())
+    }
+
+    fn text(&mut self, sheet: &[u8]) -> Answer<&[u8]> {
+        self.text = report(sheet);
+        Ok(self.text.as_bytes())
+    }
+
+    fn elements(&mut self, Curve { a, r, l }: Curve) -> Answer<()> {
+        self.elements = elements(a, r, l)?;
+        Ok(())
+    }
+
+    fn kept_elements(&self) -> [i128; 6] {
+        let Elements { x, y, k, p, d, tt } = self.elements;
+        [x, y, k, p, d, tt]
+    }
+}

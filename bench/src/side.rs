@@ -1,0 +1,34 @@
+//! What is timed: the calls that library and reference both have.
+
+use reference::curve::Curve;
+
+/// Number and place of a refusal.
+#[derive(Clone, Copy, Debug, PartialEq, Eq)]
+pub struct Refused {
+    pub number: u32,
+    pub place: usize,
+}
+
+pub type Answer<T> = Result<T, Refused>;
+
+/// One of the two. It keeps the buffers that its calls fill; they are used again
+/// and not cleared between calls.
+pub trait Side {
+    /// The sheet read, and written into `room` bytes, 706 at most.
+    fn rewrite(&mut self, sheet: &[u8], room: usize) -> Answer<&[u8]>;
+
+    /// The sheet's stations, µm.
+    fn stations(&mut self, sheet: &[u8]) -> Answer<&[u64]>;
+
+    /// How many stations the sheet has.
+    fn check(&mut self, sheet: &[u8]) -> Answer<usize>;
+
+    /// What the station program prints for the sheet.
+    fn text(&mut self, sheet: &[u8]) -> Answer<&[u8]>;
+
+    /// Works out the elements of a curve and keeps them.
+    fn elements(&mut self, curve: Curve) -> Answer<()>;
+
+    /// X, Y, k, p, D, TT of the last curve, µm.
+    fn kept_elements(&self) -> [i128; 6];
+}

@@ -1,0 +1,27 @@
+/* Calls with buffers of no entries, given as null pointers. Exit status: 0 where each answers as the header says. */
+#include "pokyandi.h"
+
+#include <stdio.h>
+
+/* Document 01's case 9: speed 70, crossfall 8, start 0, no curve, a distance of 500 m. */
+static const uint8_t SHEET[] = {0x10, 0x11, 0xA0, 0x00, 0x00, 0x00, 0x00, 0xF4, 0x24, 0x00};
+
+static int wrong(const char *call, uint64_t answer, uint32_t refusal) {
+    if (pokyandi_refusal(answer) == refusal && pokyandi_place(answer) == 0) {
+        return 0;
+    }
+    fprintf(stderr, "empty: %s answers %llx\n", call, (unsigned long long)answer);
+    return 1;
+}
+
+int main(void) {
+    int faults = 0;
+    faults += wrong("stations of no bytes", pokyandi_stations(NULL, 0, NULL, 0), POKYANDI_TRUNCATED);
+    faults += wrong("check of no bytes", pokyandi_check(NULL, 0), POKYANDI_TRUNCATED);
+    faults += wrong("rewrite of no bytes", pokyandi_rewrite(NULL, 0, NULL, 0), POKYANDI_TRUNCATED);
+    faults += wrong("text of no bytes", pokyandi_text(NULL, 0, NULL, 0), POKYANDI_SMALL_BUFFER);
+    faults += wrong("stations into nothing", pokyandi_stations(SHEET, sizeof SHEET, NULL, 0), POKYANDI_SMALL_BUFFER);
+    faults += wrong("rewrite into nothing", pokyandi_rewrite(SHEET, sizeof SHEET, NULL, 0), POKYANDI_SMALL_BUFFER);
+    faults += wrong("elements into nothing", pokyandi_elements(177764, 350000, 40000, NULL, 0), POKYANDI_SMALL_BUFFER);
+    return faults != 0;
+}

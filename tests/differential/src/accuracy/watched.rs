@@ -1,0 +1,286 @@
+//! All quantities that are watched, and what a line adds to them.
+
+use super::record::{Claim, Differences, Lengths};
+use crate::side::Side;
+use reference::curve::Curve;
+use reference::exact::elements::{exact_arc, exact_elements, ExactElements};
+use reference::exact::fraction::Fraction;
+use reference::exact::stations::{exact_stations, exact_straights};
+use reference::line::{Line, MOST_CURVES};
+use reference::refusal::Refusal;
+use reference::samples::sheet_fields::sheet_of;
+
+/// The elements and their bounds, µm (document 01, Clerk's sums).
+const ELEMENTS: [(&str, u64); 6] = [
+    ("X", 2),
+    ("Y", 2),
+    ("k", 30),
+    ("p", 30),
+    ("D", 6),
+    ("TT", 300),
+];
+/// The stations of a curve, then the end.
+const STATIONS: [&str; 5] = ["TS", "SC", "CS", "ST", "END"];
+/// The same over the number of the curve.
+const STATIONS_OVER: [&str; 5] = ["TS / i", "SC / i", "CS / i", "ST / i", "END / n"];
+/// The end's index among them.
+const END: usize = 4;
+/// Bound of a station for each curve up to it, µm (document 01, Clerk's sums).
+const STATION_BOUND: u64 = 700;
+
+/// Lines from which on some must be refused 14 and 15.
+const ENOUGH: u64 = 60;
+
+/// What is watched.
+pub struct Watched {
+    pub accepted: u64,
+    /// Accepted lines of 64 curves.
+    pub full: u64,
+    /// Curves of the accepted lines.
+    pub curves: u64,
+    pub refused_14: u64,
+    pub refused_15: u64,
+    pub elements: [Differences; 6],
+    pub stations: [Differences; 5],
+    pub stations_over: [Differences; 5],
+    pub accepted_straight: Lengths,
+    pub accepted_arc: Lengths,
+    pub refused_straight: Lengths,
+    pub refused_arc: Lengths,
+}
+
+impl Watched {
+    /// Nothing seen so far.
+    pub fn new() -> Watched {
+        Watched {
+            accepted: 0,
+            full: 0,
+            curves: 0,
+            refused_14: 0,
+            refused_15: 0,
+            elements: ELEMENTS.map(|(name, bound)| Differences::new(name, Some(bound))),
+            stations: STATIONS.map(|name| Differences::new(name, None)),
+            stations_over: STATIONS_OVER.map(|name| Differences::new(name, Some(STATION_BOUND))),
+            accepted_straight: Lengths::new("straight, accepted", Claim::Longer(4)),
+            accepted_arc: Lengths::new("arc, accepted", Claim::Longer(9)),
+            refused_straight: Lengths::new("straight, refused 15", Claim::Shorter(16)),
+            refused_arc: Lengths::new("arc, refused 14", Claim::Shorter(11)),
+        }
+    }
+
+    pub fn lines(&self) -> u64 {
+        self.accepted + self.refused_14 + self.refused_15
+    }
+
+    /// Works a line, or says which claim it breaks.
+    pub fn see(&mut self, library: &dyn Side, line: &Line) -> Result<(), String> {
+        let mut row = [0; 4 * MOST_CURVES + 1];
+        match library.stations(&sheet_of(line), &mut row) {
+            Ok(count) => self.see_accepted(library, line, &row[..count]),
+            Err(Refusal { number: 14, place }) => self.see_refused_14(line, place),
+            Err(Refusal { number: 15, place }) => self.see_refused_15(line, place),
+            Err(refusal) => Err(format!("{refusal} for a line without such a fault")),
+        }
+    }
+
+    fn see_accepted(
+        &mut self,
+        library: &dyn Side,
+        line: &Line,
+        stations: &[u64],
+    ) -> Result<(), String> {
+        let n = line.curve_count();
+        self.accepted += 1;
+        self.full += u64::from(n == MOST_CURVES);
+        self.curves += n as u64;
+        self.see_stations(line, stations)?;
+        for i in 1..=n {
+            self.see_elements(library, line.curve(i))?;
+        }
+        self.see_accepted_lengths(line)
+    }
+
+    fn see_stations(&mut self, line: &Line, stations: &[u64]) -> Result<(), String> {
+        let n = line.curve_count();
+        let exact = exact_stations(line);
+        if stations.len() != exact.len() {
+            return Err(format!("{} stations of {n} curves", stations.len()));
+        }
+        for (index, (station, exact)) in stations.iter().zip(&exact).enumerate() {
+            let difference = difference(*station, exact);
+            if index == 4 * n {
+                self.see_station(END, n, n, &difference)?;
+            } else {
+                self.see_station(index % 4, index / 4 + 1, n, &difference)?;
+            }
+        }
+        Ok(())
+    }
+
+    /// The difference of a station of curve i, or of the end, i being n.
+    fn see_station(
+        &mut self,
+        station: usize,
+        i: usize,
+        n: usize,
+        difference: &Fraction,
+    ) -> Result<(), String> {
+        let at = || format!("curve {i} of {n}");
+        self.stations[station].see(difference, at)?;
+        if i > 0 {
+            let over = difference / i as u64;
+            return self.stations_over[station].see(&over, at);
+        }
+        Differences::new("END without curve", Some(0)).see(difference, at)
+    }
+
+    /// The elements of a curve of an accepted line.
+    fn see_elements(&mut self, library: &dyn Side, curve: Curve) -> Result<(), String> {
+        let mut numbers = [0; ELEMENTS.len()];
+        let answer = library.elements(curve, &mut numbers);
+        if answer != Ok(ELEMENTS.len()) {
+            return Err(format!("elements of {curve} answered {answer:?}"));
+        }
+        let ExactElements { x, y, k, p, d, tt } = exact_elements(curve);
+        let pairs = numbers.into_iter().zip([x, y, k, p, d, tt]);
+        for (seen, (number, exact)) in self.elements.iter_mut().zip(pairs) {
+            seen.see(&difference(number, &exact), || curve.to_string())?;
+        }
+        Ok(())
+    }
+
+    fn see_accepted_lengths(&mut self, line: &Line) -> Result<(), String> {
+        for (i, straight) in exact_straights(line).iter().enumerate() {
+            self.accepted_straight
+                .see(straight, || straight_place(line, i))?;
+        }
+        for i in 1..=line.curve_count() {
+            let arc = exact_arc(line.curve(i));
+            self.accepted_arc.see(&arc, || arc_place(line, i))?;
+        }
+        Ok(())
+    }
+
+    /// The exact arc at the place of refusal 14.
+    fn see_refused_14(&mut self, line: &Line, place: usize) -> Result<(), String> {
+        self.refused_14 += 1;
+        if !(1..=line.curve_count()).contains(&place) {
+            return Err(format!("refusal 14 at place {place}"));
+        }
+        let arc = exact_arc(line.curve(place));
+        self.refused_arc.see(&arc, || arc_place(line, place))
+    }
+
+    /// The exact straight at the place of refusal 15.
+    fn see_refused_15(&mut self, line: &Line, place: usize) -> Result<(), String> {
+        self.refused_15 += 1;
+        let Some(straight) = exact_straights(line).into_iter().nth(place) else {
+            return Err(format!("refusal 15 at place {place}"));
+        };
+        self.refused_straight
+            .see(&straight, || straight_place(line, place))
+    }
+
+    /// What many lines must have but these lack.
+    pub fn missing(&self) -> Option<&'static str> {
+        if self.lines() < ENOUGH {
+            return None;
+        }
+        if 2 * self.accepted <= self.lines() {
+            return Some("no more than half of the lines are accepted");
+        }
+        let none_refused = self.refused_14 == 0 || self.refused_15 == 0;
+        none_refused.then_some("no line is refused 14, or none 15")
+    }
+}
+
+/// A number of the library, µm, less an exact length, mm.
+fn difference(number: u64, exact: &Fraction) -> Fraction {
+    Fraction::from(number) - exact * 1_000
+}
+
+/// The straight and how many curves the line has.
+fn straight_place(line: &Line, i: usize) -> String {
+    format!("straight {i} of {} curves", line.curve_count())
+}
+
+/// The arc, how many curves the line has, and the arc's curve.
+fn arc_place(line: &Line, i: usize) -> String {
+    format!(
+        "arc {i} of {} curves, {}",
+        line.curve_count(),
+        line.curve(i)
+    )
+}
+
+#[cfg(test)]
+mod tests {
+    use super::*;
+    use crate::side::{Library, Reference};
+
+    fn close(a: f64, b: f64) -> bool {
+        (a - b).abs() < 1e-8
+    }
+
+    /// Cases 1, 3, 7 and 9 of document 01; the figures are those that the
+    /// reference's own tests give for them.
+    #[test]
+    fn cases_of_the_document() {
+        let [case_1, mut case_3, mut case_7] = [(); 3].map(|_| Line::case_1());
+        case_3.distances[0] = 180_990;
+        case_7.curves[0].a = 23_573;
+        let mut watched = Watched::new();
+        for line in [case_1, case_3, case_7, Line::case_9()] {
+            assert_eq!(watched.see(&Library, &line), Ok(()));
+        }
+        let counts = [watched.accepted, watched.refused_14, watched.refused_15];
+        assert_eq!(counts, [2, 1, 1]);
+        assert!(close(watched.elements[5].below, -0.931_612_491));
+        assert!(close(watched.stations[0].above, 0.931_612_491));
+        assert!(close(watched.stations_over[END].above, 1.632_580_558));
+        let nearest = |lengths: &Lengths| lengths.nearest.clone().unwrap().0;
+        assert!(close(nearest(&watched.refused_arc), -0.204_833_217));
+        assert!(close(nearest(&watched.accepted_arc), 261_638.467_230_644));
+        let refused = 180_990.0 - 180_989.278_931_612;
+        assert!(close(nearest(&watched.refused_straight), refused));
+    }
+
+    /// What the library would have to answer wrongly: the numbers of case 1, one
+    /// of them moved.
+    #[test]
+    fn moved_numbers_break_the_claims() {
+        let line = Line::case_1();
+        let mut row = [0; 5];
+        Reference.stations(&sheet_of(&line), &mut row).unwrap();
+        for station in 0..5 {
+            for (moved, holds) in [(698, true), (-698, true), (702, false), (-702, false)] {
+                let mut row = row;
+                row[station] = row[station].checked_add_signed(moved).unwrap();
+                let seen = Watched::new().see_stations(&line, &row);
+                assert_eq!(seen.is_ok(), holds, "{station} {moved}");
+            }
+        }
+        assert!(Watched::new().see_stations(&line, &row[..4]).is_err());
+    }
+
+    #[test]
+    fn end_without_curve_is_exact() {
+        let line = Line::case_9();
+        let see = |end: u64| Watched::new().see_stations(&line, &[end]);
+        assert!(see(500_000_000).is_ok());
+        assert!(see(500_000_001).is_err() && see(499_999_999).is_err());
+    }
+
+    #[test]
+    fn wrong_refusals_break_the_claims() {
+        let line = Line::case_1();
+        for place in [0, 1, 2] {
+            assert!(Watched::new().see_refused_14(&line, place).is_err());
+            assert!(Watched::new().see_refused_15(&line, place).is_err());
+        }
+        let mut crowded = line;
+        crowded.distances[0] = 180_989;
+        assert!(Watched::new().see_refused_15(&crowded, 0).is_ok());
+        assert!(Watched::new().see_accepted_lengths(&crowded).is_err());
+    }
+}

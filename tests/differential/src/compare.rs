@@ -1,0 +1,292 @@
+//! The comparison: both sides get the same input, and all that they answer and
+//! write is compared.
+
+use crate::input::{Input, Request};
+use crate::memory::{Entry, EntryDifference, Memory};
+use crate::side::{Answer, Reference, Side};
+use reference::report::refusal_number;
+use std::fmt;
+use std::hint::black_box;
+
+/// What differs.
+#[derive(Clone, Copy, Debug, PartialEq, Eq)]
+pub enum Difference {
+    /// The answers.
+    Answer,
+    /// An entry of the lent memory, or a guard of it.
+    Lent(EntryDifference),
+    /// A byte of the sheet, or a guard of it, that was changed.
+    Sheet(EntryDifference),
+}
+
+impl fmt::Display for Difference {
+    fn fmt(&self, f: &mut fmt::Formatter) -> fmt::Result {
+        match self {
+            Difference::Answer => write!(f, "the answers"),
+            Difference::Lent(entry) => write!(
+                f,
+                "entry {} of the lent memory: library {}, reference {}",
+                entry.index, entry.found, entry.expected
+            ),
+            Difference::Sheet(byte) => write!(
+                f,
+                "byte {} of the sheet: {} before the call, {} after it",
+                byte.index, byte.expected, byte.found
+            ),
+        }
+    }
+}
+
+/// The result of one comparison.
+#[derive(Clone, Debug, PartialEq, Eq)]
+pub struct Comparison {
+    pub library: Answer,
+    pub reference: Answer,
+    /// The first difference.
+    pub difference: Option<Difference>,
+    /// For a text that fits: the refusal that it tells, 0 for a list of stations.
+    pub told: Option<usize>,
+}
+
+/// Calls both sides with the input.
+pub fn compare(library: &dyn Side, input: &Input) -> Comparison {
+    match &input.request {
+        Request::Stations(sheet) => with_sheet(input, sheet, |sheet| {
+            both(input, library, |side, row| side.stations(sheet, row)).0
+        }),
+        Request::Check(sheet) => with_sheet(input, sheet, |sheet| {
+            let nothing_lent = |side: &dyn Side, _: &mut [u8]| side.check(sheet);
+            both(input, library, nothing_lent).0
+        }),
+        Request::Rewrite(sheet) => with_sheet(input, sheet, |sheet| {
+            both(input, library, |side, bytes| side.rewrite(sheet, bytes)).0
+        }),
+        Request::Elements(curve) => {
+            both(input, library, |side, numbers| {
+                side.elements(*curve, numbers)
+            })
+            .0
+        }
+        Request::Text(sheet) => with_sheet(input, sheet, |sheet| {
+            let (comparison, expected) = both(input, library, |side, text| side.text(sheet, text));
+            let told = told_by(&expected);
+            Comparison { told, ..comparison }
+        }),
+    }
+}
+
+/// Makes a call with a sheet that stands between guards, and sees that it is
+/// unchanged.
+fn with_sheet(input: &Input, sheet: &[u8], call: impl FnOnce(&[u8]) -> Comparison) -> Comparison {
+    let memory = Memory::holding(input.pattern.rotate_left(32), sheet);
+    let before = memory.clone();
+    let comparison = call(memory.lent());
+    // The compiler takes a lent sheet as unchanged; here it must look.
+    match black_box(&memory).first_difference(&before) {
+        Some(byte) => Comparison {
+            difference: Some(Difference::Sheet(byte)),
+            ..comparison
+        },
+        None => comparison,
+    }
+}
+
+/// What a side answered, and the memory after its call.
+struct Outcome<T> {
+    answer: Answer,
+    memory: Memory<T>,
+}
+
+/// Lends equal memory to both sides. Gives the reference's outcome too.
+fn both<T: Entry>(
+    input: &Input,
+    library: &dyn Side,
+    call: impl Fn(&dyn Side, &mut [T]) -> Answer,
+) -> (Comparison, Outcome<T>) {
+    let most = input.request.call().most_room();
+    let memory = Memory::new(input.pattern, input.room_entries(), most);
+    let outcome = |side: &dyn Side| {
+        let mut memory = memory.clone();
+        let answer = call(side, memory.lent_mut());
+        Outcome { answer, memory }
+    };
+    let [found, expected] = [outcome(library), outcome(&Reference)];
+    let comparison = Comparison {
+        library: found.answer,
+        reference: expected.answer,
+        difference: first_difference(&found, &expected),
+        told: None,
+    };
+    (comparison, expected)
+}
+
+/// The first difference between two outcomes.
+fn first_difference<T: Entry>(found: &Outcome<T>, expected: &Outcome<T>) -> Option<Difference> {
+    if found.answer != expected.answer {
+        return Some(Difference::Answer);
+    }
+    let entry = found.memory.first_difference(&expected.memory)?;
+    Some(Difference::Lent(entry))
+}
+
+/// What a text that fits tells.
+fn told_by(outcome: &Outcome<u8>) -> Option<usize> {
+    let count = outcome.answer.ok()?;
+    let text = std::str::from_utf8(&outcome.memory.lent()[..count]).expect("the text is ASCII");
+    Some(refusal_number(text).map_or(0, usize::from))
+}
+
+#[cfg(test)]
+mod tests {
+    use super::*;
+    use crate::input::Room;
+    use crate::side::Library;
+    use crate::spoilt::{Change, Spoilt};
+    use reference::line::Line;
+    use reference::refusal::refuse;
+    use reference::samples::sheet_fields::sheet_of;
+
+    /// A count that is one too large.
+    fn count<T>(answer: Answer, _: &mut [T]) -> Answer {
+        answer.map(|count| count + 1)
+    }
+
+    /// The next number instead of a refusal's own.
+    fn number<T>(answer: Answer, _: &mut [T]) -> Answer {
+        answer.or_else(|refusal| refuse(refusal.number + 1, refusal.place))
+    }
+
+    /// The next place instead of a refusal's own.
+    fn place<T>(answer: Answer, _: &mut [T]) -> Answer {
+        answer.map_err(|refusal| refusal.at(refusal.place + 1))
+    }
+
+    /// Another last entry of those that are written.
+    fn content<T: From<u8>>(answer: Answer, lent: &mut [T]) -> Answer {
+        lent[answer? - 1] = T::from(0x5A);
+        answer
+    }
+
+    /// Another entry behind those that are written.
+    fn remainder<T: From<u8>>(answer: Answer, lent: &mut [T]) -> Answer {
+        lent[answer?] = T::from(0x5A);
+        answer
+    }
+
+    /// Another first entry though the call is refused.
+    fn refused<T: From<u8>>(answer: Answer, lent: &mut [T]) -> Answer {
+        if answer.is_err() {
+            lent[0] = T::from(0x5A);
+        }
+        answer
+    }
+
+    fn spoilt(numbers: Change<u64>, bytes: Change<u8>) -> Spoilt {
+        Spoilt { numbers, bytes }
+    }
+
+    /// The pattern's bytes at the places that are spoilt are not 0x5A.
+    const PATTERN: u64 = 0x3000_0000_0000_0201;
+
+    /// Case 1's five requests.
+    fn requests() -> Vec<Request> {
+        let sheet = sheet_of(&Line::case_1());
+        let mut requests: Vec<Request> = Request::OF_A_SHEET
+            .map(|request| request(sheet.clone()))
+            .into();
+        requests.push(Request::Elements(Line::case_1().curve(1)));
+        requests
+    }
+
+    /// Those that are lent memory.
+    fn lending_requests() -> Vec<Request> {
+        let mut requests = requests();
+        requests.retain(|request| !matches!(request, Request::Check(_)));
+        requests
+    }
+
+    fn difference(library: &dyn Side, request: &Request, room: Room) -> Option<Difference> {
+        let input = Input {
+            request: request.clone(),
+            room,
+            pattern: PATTERN,
+        };
+        compare(library, &input).difference
+    }
+
+    /// The index of the entry that differs.
+    fn index(difference: Option<Difference>) -> Option<isize> {
+        match difference {
+            Some(Difference::Lent(entry)) => Some(entry.index),
+            _ => None,
+        }
+    }
+
+    #[test]
+    fn equal_sides_do_not_differ() {
+        for request in requests() {
+            for more in [-1, 0, 1] {
+                assert_eq!(difference(&Reference, &request, Room::Needed(more)), None);
+                assert_eq!(difference(&Library, &request, Room::Needed(more)), None);
+            }
+        }
+    }
+
+    #[test]
+    fn wrong_answers_are_found() {
+        let answer = Some(Difference::Answer);
+        let wrong_count = spoilt(count, count);
+        let refusals = [spoilt(number, number), spoilt(place, place)];
+        for request in requests() {
+            assert_eq!(difference(&wrong_count, &request, Room::Needed(0)), answer);
+        }
+        for library in &refusals {
+            for request in lending_requests() {
+                assert_eq!(difference(library, &request, Room::Needed(-1)), answer);
+            }
+            let cut = Request::Check(vec![0x10; 3]);
+            assert_eq!(difference(library, &cut, Room::Entries(0)), answer);
+        }
+    }
+
+    #[test]
+    fn changed_entries_are_found() {
+        for request in lending_requests() {
+            let needed = request.needed() as isize;
+            let found = |library, more| index(difference(&library, &request, Room::Needed(more)));
+            assert_eq!(found(spoilt(content, content), 0), Some(needed - 1));
+            assert_eq!(found(spoilt(remainder, remainder), 1), Some(needed));
+            assert_eq!(found(spoilt(refused, refused), -1), Some(0));
+        }
+    }
+
+    #[test]
+    fn changed_guards_are_found() {
+        let outcome = || Outcome {
+            answer: Ok(1),
+            memory: Memory::<u64>::new(PATTERN, 1, 3),
+        };
+        assert_eq!(first_difference(&outcome(), &outcome()), None);
+        for guard in [-1, 1, 2, 3] {
+            let mut found = outcome();
+            found.memory.set(guard, 0x5A);
+            assert_eq!(index(first_difference(&found, &outcome())), Some(guard));
+        }
+    }
+
+    #[test]
+    fn told_refusals() {
+        let told = |sheet: &[u8], more| {
+            let input = Input {
+                request: Request::Text(sheet.to_vec()),
+                room: Room::Needed(more),
+                pattern: PATTERN,
+            };
+            compare(&Reference, &input).told
+        };
+        let sheet = sheet_of(&Line::case_1());
+        assert_eq!(told(&sheet, 0), Some(0));
+        assert_eq!(told(&sheet[..20], 0), Some(1));
+        assert_eq!(told(&sheet, -1), None);
+    }
+}

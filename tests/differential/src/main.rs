@@ -1,0 +1,75 @@
+//! Holds the proved static library against the separately written reference: the
+//! same inputs for both, and all that they answer and write compared; and its
+//! stations and elements against document 01's sums in fractions.
+
+mod accuracy;
+mod arguments;
+mod compare;
+mod input;
+mod inputs;
+mod memory;
+mod progress;
+mod run;
+mod side;
+#[cfg(test)]
+mod spoilt;
+mod tally;
+
+use arguments::{command_of, Command, USAGE};
+use side::Library;
+use std::io::{self, Write};
+use std::process::ExitCode;
+
+/// Exit status for arguments that are not understood.
+const NOT_UNDERSTOOD: u8 = 2;
+
+fn main() -> ExitCode {
+    let arguments: Vec<String> = std::env::args_os()
+        .skip(1)
+        .map(|argument| argument.to_string_lossy().into_owned())
+        .collect();
+    match command_of(&arguments) {
+        Ok(Command::Help) => print(true, USAGE),
+        Ok(Command::Run { seed, count }) => run(seed, count),
+        Ok(Command::Replay { seed, index }) => {
+            let (agree, report) = run::replay(&Library, seed, index);
+            print(agree, &report)
+        }
+        Ok(Command::Accuracy { seed, lines }) => accuracy(seed, lines),
+        Err(message) => {
+            eprint!("differential: {message}\n\n{USAGE}");
+            ExitCode::from(NOT_UNDERSTOOD)
+        }
+    }
+}
+
+fn run(seed: u64, count: u64) -> ExitCode {
+    let tally = match run::run(&Library, seed, count) {
+        Ok(tally) => tally,
+        Err(report) => return print(false, &format!("the sides differ\n{report}")),
+    };
+    let missing = tally.missing();
+    let mut text = tally.table();
+    text.extend(missing.iter().map(|what| format!("never occurred: {what}")));
+    if missing.is_empty() {
+        text.push(format!("{} inputs, seed {seed}: all agree", tally.total()));
+    }
+    print(missing.is_empty(), &(text.join("\n") + "\n"))
+}
+
+fn accuracy(seed: u64, lines: u64) -> ExitCode {
+    match accuracy::watch(&Library, seed, lines) {
+        Ok(table) => print(true, &table),
+        Err(report) => print(false, &report),
+    }
+}
+
+/// Prints the text. The exit status is 0 where all is well and it was printed.
+fn print(well: bool, text: &str) -> ExitCode {
+    let printed = io::stdout().write_all(text.as_bytes()).is_ok();
+    if well && printed {
+        ExitCode::SUCCESS
+    } else {
+        ExitCode::FAILURE
+    }
+}

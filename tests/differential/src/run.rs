@@ -1,0 +1,154 @@
+//! Runs of inputs, and the report of one input.
+
+use crate::compare::{compare, Comparison};
+use crate::input::{Input, Request};
+use crate::inputs::Inputs;
+use crate::progress::Progress;
+use crate::side::{Answer, Side};
+use crate::tally::Tally;
+use reference::hexadecimal::digits_of;
+use reference::sheet;
+use std::panic::{catch_unwind, AssertUnwindSafe};
+
+/// Compares the first `count` inputs of the seed. Gives the counts, or the
+/// report of the first input on which the sides differ.
+pub fn run(library: &dyn Side, seed: u64, count: u64) -> Result<Tally, String> {
+    let inputs = Inputs::of(seed);
+    let mut tally = Tally::default();
+    let mut progress = Progress::new("inputs compared", count);
+    for index in 0..count {
+        let input = inputs.input(index);
+        let result = compare_caught(library, &input);
+        match &result {
+            Some(comparison) if comparison.difference.is_none() => tally.add(&input, comparison),
+            _ => {
+                progress.end();
+                return Err(report(seed, index, &input, &result));
+            }
+        }
+        progress.show(index + 1);
+    }
+    progress.end();
+    Ok(tally)
+}
+
+/// Compares one input of the seed. Gives whether the sides agree, and the report.
+pub fn replay(library: &dyn Side, seed: u64, index: u64) -> (bool, String) {
+    let input = Inputs::of(seed).input(index);
+    let result = compare_caught(library, &input);
+    let agree = matches!(
+        &result,
+        Some(Comparison {
+            difference: None,
+            ..
+        })
+    );
+    (agree, report(seed, index, &input, &result))
+}
+
+/// The comparison; nothing where a side panicked, as on an answer that the
+/// library's crate does not know.
+fn compare_caught(library: &dyn Side, input: &Input) -> Option<Comparison> {
+    catch_unwind(AssertUnwindSafe(|| compare(library, input))).ok()
+}
+
+/// An input and what came of it.
+fn report(seed: u64, index: u64, input: &Input, result: &Option<Comparison>) -> String {
+    let mut rows = vec![
+        row("seed", seed),
+        row("index", index),
+        row("call", input.request.call().name()),
+    ];
+    rows.extend(request_rows(&input.request));
+    rows.push(row("room", input.room_entries()));
+    match result {
+        Some(comparison) => rows.extend(comparison_rows(comparison)),
+        None => rows.push(row("panicked", "a side stopped with the message above")),
+    }
+    rows.concat()
+}
+
+/// The curve, or the sheet and what the reference reads in it.
+fn request_rows(request: &Request) -> Vec<String> {
+    match request {
+        Request::Elements(curve) => vec![row("curve A R L", curve)],
+        Request::Stations(sheet)
+        | Request::Check(sheet)
+        | Request::Rewrite(sheet)
+        | Request::Text(sheet) => sheet_rows(sheet),
+    }
+}
+
+/// The sheet in hexadecimal, and its line: `N V E START D0 SIDE A R L D1 ..`.
+pub fn sheet_rows(sheet: &[u8]) -> Vec<String> {
+    let read = match sheet::read(sheet) {
+        Ok(line) => row("line", line),
+        Err(refusal) => row("line", refusal),
+    };
+    vec![row("sheet", digits_of(sheet)), read]
+}
+
+fn comparison_rows(comparison: &Comparison) -> Vec<String> {
+    let difference = match comparison.difference {
+        Some(difference) => difference.to_string(),
+        None => "none".to_string(),
+    };
+    vec![
+        row("library", answer_text(&comparison.library)),
+        row("reference", answer_text(&comparison.reference)),
+        row("difference", difference),
+    ]
+}
+
+fn answer_text(answer: &Answer) -> String {
+    match answer {
+        Ok(count) => format!("count {count}"),
+        Err(refusal) => refusal.to_string(),
+    }
+}
+
+pub fn row(name: &str, value: impl ToString) -> String {
+    format!("{name:12} {}\n", value.to_string())
+}
+
+#[cfg(test)]
+mod tests {
+    use super::*;
+    use crate::side::Library;
+    use crate::spoilt::Spoilt;
+
+    #[test]
+    fn library_agrees_on_some_inputs() {
+        let tally = run(&Library, 7, 300).unwrap();
+        assert_eq!(tally.total(), 300);
+        let (agree, report) = replay(&Library, 7, 299);
+        assert!(agree && report.contains("difference   none\n"), "{report}");
+    }
+
+    /// Inputs 0 to 3 are the stations, the check, the rewriting and the text of
+    /// case 1.
+    #[test]
+    fn first_difference_is_reported_and_replayed() {
+        let library = Spoilt {
+            numbers: |answer, _| answer,
+            bytes: |answer, _| answer.map(|count| count + 1),
+        };
+        let found = run(&library, 1, 10).err().unwrap();
+        assert!(found.starts_with("seed         1\nindex        1\ncall         check\n"));
+        let answers = "library      count 6\nreference    count 5\n";
+        let end = format!("room         0\n{answers}difference   the answers\n");
+        assert!(found.ends_with(&end), "{found}");
+        assert_eq!(replay(&library, 1, 1), (false, found));
+    }
+
+    #[test]
+    fn panic_is_reported() {
+        let library = Spoilt {
+            numbers: |answer, _| answer,
+            bytes: |_, _| panic!("a test"),
+        };
+        let found = run(&library, 1, 10).err().unwrap();
+        assert!(found.contains("\nindex        1\n"), "{found}");
+        assert!(found.contains("\npanicked "), "{found}");
+    }
+}

@@ -1,0 +1,185 @@
+//! The two sides of the comparison: the library and the reference.
+
+use reference::curve::Curve;
+use reference::elements::{elements, Elements};
+use reference::refusal::{refuse, Refusal};
+use reference::report::report;
+use reference::sheet;
+use reference::stations::stations;
+
+/// The count of entries that a call wrote, or its refusal.
+pub type Answer = Result<usize, Refusal>;
+
+/// The five calls of `include/pokyandi.h`.
+pub trait Side {
+    fn stations(&self, sheet: &[u8], row: &mut [u64]) -> Answer;
+    fn check(&self, sheet: &[u8]) -> Answer;
+    fn rewrite(&self, sheet: &[u8], bytes: &mut [u8]) -> Answer;
+    fn elements(&self, curve: Curve, numbers: &mut [u64]) -> Answer;
+    fn text(&self, sheet: &[u8], text: &mut [u8]) -> Answer;
+}
+
+/// The static library, called by way of its Rust crate.
+pub struct Library;
+
+impl Side for Library {
+    fn stations(&self, sheet: &[u8], row: &mut [u64]) -> Answer {
+        answer_of(pokyandi::stations(sheet, row))
+    }
+
+    fn check(&self, sheet: &[u8]) -> Answer {
+        answer_of(pokyandi::check(sheet))
+    }
+
+    fn rewrite(&self, sheet: &[u8], bytes: &mut [u8]) -> Answer {
+        answer_of(pokyandi::rewrite(sheet, bytes))
+    }
+
+    fn elements(&self, Curve { a, r, l }: Curve, numbers: &mut [u64]) -> Answer {
+        answer_of(pokyandi::elements(a, r, l, numbers))
+    }
+
+    fn text(&self, sheet: &[u8], text: &mut [u8]) -> Answer {
+        answer_of(pokyandi::text(sheet, text))
+    }
+}
+
+/// An answer of the library's crate as one of the reference.
+fn answer_of(answer: Result<usize, pokyandi::Refusal>) -> Answer {
+    answer.map_err(|pokyandi::Refusal { reason, place }| Refusal {
+        number: reason.number() as u8,
+        place: place as usize,
+    })
+}
+
+/// The calls composed of the reference's functions.
+pub struct Reference;
+
+impl Side for Reference {
+    fn stations(&self, sheet: &[u8], row: &mut [u64]) -> Answer {
+        stations(&sheet::read(sheet)?, row)
+    }
+
+    fn check(&self, sheet: &[u8]) -> Answer {
+        self.stations(sheet, &mut [0; pokyandi::ROW_NUMBERS])
+    }
+
+    fn rewrite(&self, sheet: &[u8], bytes: &mut [u8]) -> Answer {
+        sheet::write(&sheet::read(sheet)?, bytes)
+    }
+
+    fn elements(&self, Curve { a, r, l }: Curve, numbers: &mut [u64]) -> Answer {
+        let Elements { x, y, k, p, d, tt } = elements(a, r, l)?;
+        let found = [x, y, k, p, d, tt].map(|length| {
+            u64::try_from(length).expect("no element of an accepted curve is below zero")
+        });
+        fill(&found, numbers)
+    }
+
+    fn text(&self, sheet: &[u8], text: &mut [u8]) -> Answer {
+        fill(text_of(sheet).as_bytes(), text)
+    }
+}
+
+/// The text of a sheet of any length. `report` looks at 707 bytes only, as the
+/// station program does; no sheet that is read has more than 706.
+pub fn text_of(sheet: &[u8]) -> String {
+    match sheet::read(sheet) {
+        Ok(_) => report(sheet),
+        Err(refusal) => format!("{refusal}\n"),
+    }
+}
+
+/// Writes the content at the front of the lent entries, or refuses 16.
+fn fill<T: Copy>(content: &[T], entries: &mut [T]) -> Answer {
+    let Some(front) = entries.get_mut(..content.len()) else {
+        return refuse(16, 0);
+    };
+    front.copy_from_slice(content);
+    Ok(content.len())
+}
+
+#[cfg(test)]
+mod tests {
+    use super::*;
+    use reference::line::Line;
+    use reference::samples::dice::Dice;
+    use reference::samples::roads::road;
+    use reference::samples::sheet_fields::{sheet_of, COUNT, CROSSFALL, EDITION, SPEED, START};
+
+    /// Case 1 of document 01.
+    fn check_case_1(side: &dyn Side) {
+        let sheet = sheet_of(&Line::case_1());
+        let stations = [
+            319_010_722,
+            359_010_722,
+            620_649_189,
+            660_649_189,
+            879_659_911,
+        ];
+        let elements = [
+            39_986_940,
+            761_727,
+            19_997_823,
+            190_454,
+            261_638_467,
+            180_989_278,
+        ];
+
+        let mut row = [7; 6];
+        assert_eq!(side.stations(&sheet, &mut row), Ok(5));
+        assert_eq!(row[..5], stations);
+        assert_eq!(row[5], 7);
+        assert_eq!(side.stations(&sheet, &mut row[..4]), refuse(16, 0));
+        assert_eq!(side.check(&sheet), Ok(5));
+
+        let mut bytes = [7; 22];
+        assert_eq!(side.rewrite(&sheet, &mut bytes), Ok(21));
+        assert_eq!(bytes[..21], sheet);
+        assert_eq!(side.rewrite(&sheet, &mut bytes[..20]), refuse(16, 0));
+
+        let curve = Line::case_1().curve(1);
+        let mut numbers = [7; 7];
+        assert_eq!(side.elements(curve, &mut numbers), Ok(6));
+        assert_eq!(numbers[..6], elements);
+        assert_eq!(side.elements(curve, &mut numbers[..5]), refuse(16, 0));
+
+        let mut text = [7; 200];
+        let length = side.text(&sheet, &mut text).unwrap();
+        assert!(text[..length].starts_with(b"POINT CURVE STATION\nTS 1 319.010722\n"));
+        assert!(text[..length].ends_with(b"END 0 879.659911\n"));
+        assert_eq!(text[length], 7);
+        assert_eq!(side.text(&sheet, &mut text[..length - 1]), refuse(16, 0));
+    }
+
+    #[test]
+    fn case_1_of_both_sides() {
+        check_case_1(&Reference);
+        check_case_1(&Library);
+    }
+
+    /// Whatever stands behind byte 707 changes nothing: the sheet is refused by
+    /// its heading, or 7.
+    #[test]
+    fn text_of_sheets_that_are_longer_than_any() {
+        let mut dice = Dice::new(1);
+        for n in [0, 1, 63, 64] {
+            let road = sheet_of(&road(&mut dice, n));
+            let headings = [
+                road.clone(),
+                EDITION.with(&road, 2),
+                COUNT.with(&road, 65),
+                SPEED.with(&road, 45),
+                CROSSFALL.with(&road, 1),
+                START.with(&road, 200_000_001),
+            ];
+            for (mut sheet, refusal) in headings.into_iter().zip([7, 2, 3, 4, 5, 6]) {
+                for length in [707, 708, 3_000] {
+                    sheet.resize(length, 0xA5);
+                    assert_eq!(text_of(&sheet), format!("REFUSED {refusal} 0\n"));
+                    assert_eq!(text_of(&sheet), report(&sheet));
+                }
+            }
+        }
+    }
+}

@@ -1,0 +1,37 @@
+//! A side for tests of the comparison: the reference, its answers and what it
+//! wrote changed.
+
+use crate::side::{Answer, Reference, Side};
+use reference::curve::Curve;
+
+/// How the answer and the lent entries of a call are changed.
+pub type Change<T> = fn(Answer, &mut [T]) -> Answer;
+
+pub struct Spoilt {
+    /// Of calls that are lent numbers.
+    pub numbers: Change<u64>,
+    /// Of calls that are lent bytes, and of `check`, which is lent nothing.
+    pub bytes: Change<u8>,
+}
+
+impl Side for Spoilt {
+    fn stations(&self, sheet: &[u8], row: &mut [u64]) -> Answer {
+        (self.numbers)(Reference.stations(sheet, row), row)
+    }
+
+    fn check(&self, sheet: &[u8]) -> Answer {
+        (self.bytes)(Reference.check(sheet), &mut [])
+    }
+
+    fn rewrite(&self, sheet: &[u8], bytes: &mut [u8]) -> Answer {
+        (self.bytes)(Reference.rewrite(sheet, bytes), bytes)
+    }
+
+    fn elements(&self, curve: Curve, numbers: &mut [u64]) -> Answer {
+        (self.numbers)(Reference.elements(curve, numbers), numbers)
+    }
+
+    fn text(&self, sheet: &[u8], text: &mut [u8]) -> Answer {
+        (self.bytes)(Reference.text(sheet, text), text)
+    }
+}
