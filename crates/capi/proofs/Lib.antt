@@ -2,3 +2,4 @@
 pub mod Replies
 pub mod Rewriting
 pub mod AnswersTold
+pub mod Examples

@@ -1,7 +1,7 @@
 // Fields written into the caller's bytes, most significant bit first: each byte is stored once, in ascending order.
 ghost use mathlib.Core.Path.{_≡_};
 ghost use mathlib.Core.List.{_++_};
-ghost use Prim.Native.Nat.{ℕ, _+_, _*_, _^_, _<_, _≤_};
+ghost use Prim.Native.Nat.{_+_, _*_, _^_, _<_, _≤_};
 ghost use lib.ListN.{length, take, drop};
 ghost use Rattle.sheet.specs.Bits.{bytesOf};
 ghost use Rattle.sheet.specs.Pens.{Put, position};

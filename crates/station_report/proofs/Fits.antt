@@ -5,7 +5,7 @@ use Prim.Native.Nat.{ℕ, _≤_, _<_}
 use native.Mathlib.Omega.{arith}
 use lib.ListN.{length}
 use borrow.Author.Tests.{le-leb}
-use Rattle.refusals.specs.Outcomes.{Outcome, passed, refused, _▹_}
+use Rattle.refusals.specs.Outcomes.{Outcome, passed, refused}
 use Rattle.refusals.specs.Filling.{filled, unfilled}
 use Rattle.refusals.proofs.Filled.{never}
 use Rattle.refusals.proofs.Numbers.{Refuses, joined-numbers, wider}

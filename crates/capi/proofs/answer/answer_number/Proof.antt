@@ -1,6 +1,6 @@
 -- `answer_number` meets its contract. Assumes nothing.
 use mathlib.Core.Path.{sym, _∙_, ap}
-use Rattle.refusals.specs.Filling.{FillReply, fillReplyOf}
+use Rattle.refusals.specs.Filling.{fillReplyOf}
 use Rattle.refusals.specs.declared.FillAnswer.{FillAnswer}
 use Rattle.capi.specs.Answers.{answerNumber}
 use borrow.Author.Needs.{needs}

@@ -1,5 +1,4 @@
 -- `refusal_number` meets its contract. Assumes nothing.
-use mathlib.Core.Path.{_≡_}
 use Prim.Native.Nat.{_+_, _*_}
 use Rattle.capi.specs.Answers.{answerNumber}
 use borrow.Author.Needs.{needs}

@@ -1,9 +1,9 @@
 -- `cosine`: its divisors are those of the definition, (2j − 1) × 2j. Assumes nothing.
 use mathlib.Core.Path.{_≡_, refl, _∙_, ap}
-use Prim.Native.Nat.{ℕ, _-_, _*_}
+use Prim.Native.Nat.{ℕ, _-_}
 use lib.IntN.{pos}
 use Rattle.numbers.proofs.Ranges.{at-least, at-most}
-use Rattle.elements.specs.WorkingRule.{scale, term, alternating, cosineOf, sineDivisor, cosineDivisor}
+use Rattle.elements.specs.WorkingRule.{scale, term, alternating, cosineOf, cosineDivisor}
 use Rattle.elements.proofs.SineAndCosine.{cosine-above}
 use borrow.Author.Needs.{needs}
 use Rattle.elements.proofs.series.cosine.Statement.{statement}

@@ -1,6 +1,6 @@
 -- `sine`: its divisors are those of the definition, 2j × (2j + 1). Assumes nothing.
 use mathlib.Core.Path.{_≡_, refl, _∙_, ap}
-use Prim.Native.Nat.{ℕ, _+_, _*_}
+use Prim.Native.Nat.{ℕ}
 use lib.IntN.{pos}
 use Rattle.numbers.proofs.Ranges.{at-most}
 use Rattle.elements.specs.WorkingRule.{term, alternating, sineOf, sineDivisor}
