@@ -28,7 +28,7 @@ use Rattle.calculator.proofs.WaysOut.{row-count}
 use Rattle.station_report.specs.Report.{sheetOutcome, sheetText}
 use Rattle.station_report.proofs.Fits.{sheet-numbers, fits}
 use Rattle.capi.specs.Answers.{answerNumber, withRoom, replyFor}
-use Rattle.capi.specs.Calls.{sheetStations, checkReply, rewritten, elementNumbers}
+use Rattle.capi.specs.Calls.{sheetStations, checkReply, rewritten, elementValues, elementNumbers}
 
 -- The upper and the lower half of an answer tell the reply.
 abbrev pub Told : FillReply → Type 0
@@ -93,7 +93,7 @@ module _ (sheet : List ℕ) where
   text-told room = reply-told passed (sheetText sheet) room nothing-refused (λ e. omega (arith, fits sheet))
 
 pub elements-told : (A R L room : ℕ) → Told (replyFor (elementOutcome A R L) (elementNumbers A R L) room)
-unfolding elementOutcome arcOutcome elementNumbers
+unfolding elementOutcome arcOutcome elementNumbers elementValues
 elements-told A R L room =
     reply-told (elementOutcome A R L) (elementNumbers A R L) room
     (joined-numbers (curveOutcome A R L 0) (arcOutcome A R L 0)

@@ -1,5 +1,6 @@
 -- Laws of the calls for C and Rust.
 pub mod Replies
 pub mod Rewriting
+pub mod Elements
 pub mod AnswersTold
 pub mod Examples

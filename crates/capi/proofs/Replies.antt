@@ -23,7 +23,7 @@ use Rattle.calculator.proofs.Accepted.{few}
 use Rattle.calculator.proofs.WaysOut.{row-count}
 use Rattle.station_report.specs.Report.{sheetOutcome}
 use Rattle.capi.specs.Answers.{withRoom, replyFor, bufferFor}
-use Rattle.capi.specs.Calls.{sheetStations, checkReply, rewritten, elementNumbers, numbersOf}
+use Rattle.capi.specs.Calls.{sheetStations, checkReply, rewritten, elementValues, elementNumbers, numbersOf}
 
 -- Checks that refuse: their refusal, and the buffer as it was.
 pub refused-reply : (checks : Outcome) (content buffer : List ℕ) {n p : ℕ} → checks ≡ refused n p
@@ -85,7 +85,7 @@ check-reply sheet {room} wide = go (sheetOutcome sheet) refl
 
 -- The numbers of elements that were answered are the rule's.
 pub found-numbers : (A R L : ℕ) (e : Elements) → FoundElements A R L e → numbersOf e ≡ elementNumbers A R L
-unfolding elementNumbers valuesBy
+unfolding elementNumbers elementValues valuesBy
 found-numbers A R L e f =
     λ j. natAbs (f .X j) ∷ natAbs (f .Y j) ∷ natAbs (f .k j) ∷ natAbs (f .p j) ∷ natAbs (f .D j) ∷ natAbs (f .TT j) ∷ []
 

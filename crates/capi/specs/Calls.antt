@@ -1,7 +1,7 @@
 -- What the calls write, from the bytes of a sheet or the numbers of a curve.
-use mathlib.Core.List.{List, [], _∷_}
+use mathlib.Core.List.{List, [], _∷_, map}
 use Prim.Native.Nat.{ℕ}
-use lib.IntN.{natAbs}
+use lib.IntN.{ℤ, natAbs}
 use lib.ListN.{length}
 use Rattle.refusals.specs.Filling.{FillReply, countAfter}
 use Rattle.sheet.specs.Layout.{firstEdition}
@@ -24,12 +24,16 @@ checkReply sheet = countAfter (sheetOutcome sheet) (length (sheetStations sheet)
 unfoldable pub rewritten : List ℕ → List ℕ
 rewritten sheet = sheetOf firstEdition (readLine firstEdition sheet)
 
--- "The element call returns X, Y, k, p, D, TT."; where it answers none is negative.
-unfoldable pub elementNumbers : (A R L : ℕ) → List ℕ
-elementNumbers A R L = natAbs (v .X) ∷ natAbs (v .Y) ∷ natAbs (v .k) ∷ natAbs (v .p) ∷ natAbs (v .D) ∷ natAbs (v .TT) ∷ []
+-- "The element call returns X, Y, k, p, D, TT."
+unfoldable pub elementValues : (A R L : ℕ) → List ℤ
+elementValues A R L = v .X ∷ v .Y ∷ v .k ∷ v .p ∷ v .D ∷ v .TT ∷ []
   where
     v : Values
     v = valuesBy A R L
+
+-- As they are written; where the call answers, none is below zero (`proofs/Elements.antt`).
+unfoldable pub elementNumbers : (A R L : ℕ) → List ℕ
+elementNumbers A R L = map natAbs (elementValues A R L)
 
 -- The same of elements that were answered.
 abbrev pub numbersOf : Elements → List ℕ
