@@ -13,7 +13,10 @@ fn main() {
     let archive = folder.join("libcapi.a");
     println!("cargo:rerun-if-changed={}", archive.display());
     if !archive.is_file() {
-        eprintln!("{} is missing: run `rt staticlib capi` at the top of the repository,", archive.display());
+        eprintln!(
+            "{} is missing: run `rt staticlib capi` at the top of the repository,",
+            archive.display()
+        );
         eprintln!("or name the folder that holds libcapi.a in POKYANDI_LIBRARY");
         std::process::exit(1);
     }

@@ -13,11 +13,28 @@ pub const ELEMENT_NUMBERS: usize = 6;
 
 // A slice passes as its pointer and its length.
 extern "C" {
-    fn pokyandi_stations(sheet: *const u8, sheet_bytes: usize, row: *mut u64, row_numbers: usize) -> u64;
+    fn pokyandi_stations(
+        sheet: *const u8,
+        sheet_bytes: usize,
+        row: *mut u64,
+        row_numbers: usize,
+    ) -> u64;
     fn pokyandi_check(sheet: *const u8, sheet_bytes: usize) -> u64;
-    fn pokyandi_rewrite(sheet: *const u8, sheet_bytes: usize, bytes: *mut u8, bytes_room: usize) -> u64;
-    fn pokyandi_elements(deflection: u32, radius: u32, spiral: u32, elements: *mut u64, elements_numbers: usize) -> u64;
-    fn pokyandi_text(sheet: *const u8, sheet_bytes: usize, text: *mut u8, text_bytes: usize) -> u64;
+    fn pokyandi_rewrite(
+        sheet: *const u8,
+        sheet_bytes: usize,
+        bytes: *mut u8,
+        bytes_room: usize,
+    ) -> u64;
+    fn pokyandi_elements(
+        deflection: u32,
+        radius: u32,
+        spiral: u32,
+        elements: *mut u64,
+        elements_numbers: usize,
+    ) -> u64;
+    fn pokyandi_text(sheet: *const u8, sheet_bytes: usize, text: *mut u8, text_bytes: usize)
+        -> u64;
 }
 
 /// The stations of a sheet in µm: TS, SC, CS, ST of each curve in order, then
@@ -38,15 +55,30 @@ pub fn check(sheet: &[u8]) -> Result<usize, Refusal> {
 /// 11, then 16.
 pub fn rewrite(sheet: &[u8], bytes: &mut [u8]) -> Result<usize, Refusal> {
     // SAFETY: pointers and lengths are those of slices; the bytes are borrowed alone.
-    counted(unsafe { pokyandi_rewrite(sheet.as_ptr(), sheet.len(), bytes.as_mut_ptr(), bytes.len()) })
+    counted(unsafe {
+        pokyandi_rewrite(sheet.as_ptr(), sheet.len(), bytes.as_mut_ptr(), bytes.len())
+    })
 }
 
 /// The elements of one curve in µm, X, Y, k, p, D, TT: six numbers. The
 /// deflection is in seconds of arc, radius and spiral in mm. Refusals: 9, 10,
 /// 11, 14, then 16, all with place 0.
-pub fn elements(deflection: u32, radius: u32, spiral: u32, numbers: &mut [u64]) -> Result<usize, Refusal> {
+pub fn elements(
+    deflection: u32,
+    radius: u32,
+    spiral: u32,
+    numbers: &mut [u64],
+) -> Result<usize, Refusal> {
     // SAFETY: pointer and length are those of a slice, borrowed alone.
-    counted(unsafe { pokyandi_elements(deflection, radius, spiral, numbers.as_mut_ptr(), numbers.len()) })
+    counted(unsafe {
+        pokyandi_elements(
+            deflection,
+            radius,
+            spiral,
+            numbers.as_mut_ptr(),
+            numbers.len(),
+        )
+    })
 }
 
 /// What the program `stations` prints for a sheet: the list of stations in

@@ -86,14 +86,20 @@ impl Reason {
 impl fmt::Display for Refusal {
     fn fmt(&self, f: &mut fmt::Formatter) -> fmt::Result {
         let Refusal { reason, place } = self;
-        write!(f, "refused {} at place {place}: {}", reason.number(), reason.words())
+        write!(
+            f,
+            "refused {} at place {place}: {}",
+            reason.number(),
+            reason.words()
+        )
     }
 }
 
 impl Error for Refusal {}
 
 /// What an answer of the library says: its upper 32 bits are 0 and the lower
-/// ones a count, or they are a refusal's number and its place.
+/// ones a count, or they are a refusal's number, which is proved to be from 1 to
+/// 16 (`crates/capi/proofs/AnswersTold.antt`), and its place.
 pub(crate) fn counted(answer: u64) -> Result<usize, Refusal> {
     let upper = (answer >> 32) as usize;
     let lower = answer as u32;
@@ -120,7 +126,10 @@ mod tests {
     #[test]
     fn an_answer_is_a_count_or_a_refusal() {
         assert_eq!(counted(257), Ok(257));
-        let refusal = Refusal { reason: Reason::ShortStraight, place: 64 };
+        let refusal = Refusal {
+            reason: Reason::ShortStraight,
+            place: 64,
+        };
         assert_eq!(counted(15 << 32 | 64), Err(refusal));
     }
 }
