@@ -1,3 +1,0 @@
--- What the contracts of `capi` cite.
-pub mod Answers
-pub mod Calls

@@ -1,2 +1,0 @@
--- Laws of the lines of numbers.
-pub mod ByCases

@@ -1,2 +1,0 @@
--- What the contracts of `decimal_text` cite.
-pub mod Lines

@@ -1,2 +1,0 @@
--- What the contracts of `hex_text` cite.
-pub mod Digits

@@ -1,2 +1,0 @@
--- Laws of the input.
-pub mod Held

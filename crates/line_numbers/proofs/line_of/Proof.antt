@@ -1,0 +1,113 @@
+-- `line_of`: the loop keeps the line filled up to curve i and the distance after it. Assumes nothing.
+use mathlib.Core.Path.{_≡_, _∙_, ap}
+use Prim.Native.Nat.{_-_, _≤_}
+use borrow.Author.Needs.{needs}
+use Rattle.line_numbers.proofs.Filling.{lineTo, line-begun, line-goes-on, line-done}
+use Rattle.line_numbers.proofs.line_of.Statement.{statement}
+use Rattle.line_numbers.proofs.line_of.Tie as tie
+
+abbrev Inv-loop : tie.InvT-loop
+Inv-loop numbers line₀ i₀ line i = (i ≤ 64) × (line ≡ lineTo numbers i)
+
+abbrev μ-loop : tie.MeasureT-loop
+μ-loop numbers line₀ i₀ line i = 64 - i
+
+number-at-requires : tie.Need-number-at-requires Inv-loop μ-loop
+number-at-requires c κs = search needs
+
+number-at-requires-2 : tie.Need-number-at-requires-2 Inv-loop μ-loop
+number-at-requires-2 c κs = search needs
+
+number-at-requires-3 : tie.Need-number-at-requires-3 Inv-loop μ-loop
+number-at-requires-3 c κs = search needs
+
+number-at-requires-4 : tie.Need-number-at-requires-4 Inv-loop μ-loop
+number-at-requires-4 c κs = search needs
+
+cast-t8 : tie.Need-cast-t8 Inv-loop μ-loop
+cast-t8 c = search needs
+
+number-at-requires-5 : tie.Need-number-at-requires-5 Inv-loop μ-loop
+number-at-requires-5 c κs = search needs
+
+element-write-line : tie.Need-element-write-line Inv-loop μ-loop
+element-write-line c = search needs
+
+loop-holds : tie.Need-loop-holds Inv-loop μ-loop
+loop-holds c =
+    let third = c .before .before in
+    let first = third .before .before in
+    let numbers = first .before .before .args .numbers .now in (
+      search needs,
+      line-begun numbers _ _ _ _ _ (first .number-at .ensures) (third .before .number-at2 .ensures) (third .number-at3 .ensures) (c .before .number-at4 .ensures) (c .number-at5 .ensures),
+    )
+
+curve-of-requires : tie.Need-curve-of-requires Inv-loop μ-loop
+curve-of-requires c κs = search needs
+
+mul-t16 : tie.Need-mul-t16 Inv-loop μ-loop
+mul-t16 c = search needs
+
+element-set-from-line : tie.Need-element-set-from-line Inv-loop μ-loop
+element-set-from-line c = search needs
+
+add-i : tie.Need-add-i Inv-loop μ-loop
+add-i c = search needs
+
+mul-number-at : tie.Need-mul-number-at Inv-loop μ-loop
+mul-number-at c = search needs
+
+add-number-at : tie.Need-add-number-at Inv-loop μ-loop
+add-number-at c = search needs
+
+number-at-requires-6 : tie.Need-number-at-requires-6 Inv-loop μ-loop
+number-at-requires-6 c κs = search needs
+
+mul-line : tie.Need-mul-line Inv-loop μ-loop
+mul-line c = search needs
+
+element-write-line-2 : tie.Need-element-write-line-2 Inv-loop μ-loop
+element-write-line-2 c = search needs
+
+loop-less : tie.Need-loop-less Inv-loop μ-loop
+loop-less c = search needs
+
+loop-again : tie.Need-loop-again Inv-loop μ-loop
+loop-again c =
+    let at = c .before .before .before in (
+      search needs,
+      line-goes-on _ (at .loop .i) (at .loop .line) _ _ (search needs) (at .loop .inv .1) (c .before .curve-of .ensures) (c .number-at6 .ensures),
+    )
+
+returns : tie.Need-returns Inv-loop μ-loop
+returns c =
+    let numbers = c .before .before .before .before .before .before .before .before .args .numbers .now in
+    let all : c .before .loop .i ≡ 64 = search needs in
+    c .before .loop .inv .1 ∙ ap (lineTo numbers) all ∙ line-done numbers
+
+pub line-of-spec : {M : Type 1} → statement M
+line-of-spec =
+    tie.close
+    (tie.spec
+    Inv-loop
+    μ-loop
+    number-at-requires
+    number-at-requires-2
+    number-at-requires-3
+    number-at-requires-4
+    cast-t8
+    number-at-requires-5
+    element-write-line
+    loop-holds
+    curve-of-requires
+    mul-t16
+    element-set-from-line
+    add-i
+    mul-number-at
+    add-number-at
+    number-at-requires-6
+    mul-line
+    element-write-line-2
+    loop-less
+    loop-again
+    returns)

@@ -1,0 +1,59 @@
+-- Answers and buffers by computation, and document 01's cases 1 and 9 as the calls for C and Rust give them. Assumes nothing.
+use mathlib.Core.Path.{_≡_, refl, sym}
+use mathlib.Core.List.{[], _∷_}
+use Rattle.refusals.specs.Outcomes.{passed, refused}
+use Rattle.refusals.specs.Filling.{filled, unfilled}
+use Rattle.sheet.proofs.Examples.{sheet9}
+use Rattle.sheet.proofs.Examples as sheets
+use Rattle.elements.specs.declared.Elements.{Elements}
+use Rattle.elements.proofs.Replies.{found-elements}
+use Rattle.elements.proofs.Examples as curves
+use Rattle.calculator.proofs.Examples as lines
+use Rattle.station_report.specs.Report.{sheetOutcome}
+use Rattle.pokyandi.specs.Answers.{answerNumber, withRoom, replyFor, bufferFor}
+use Rattle.pokyandi.specs.Calls.{sheetStations, elementNumbers}
+use Rattle.pokyandi.proofs.Replies.{stations-reply, found-numbers}
+
+pub record Examples : Type 0 where
+  pub count : answerNumber (filled 257) ≡ 257
+  pub refusal : answerNumber (unfilled 15 64) ≡ 64424509504
+  -- ---- a call that writes 1 and 2
+  pub exact : replyFor passed (1 ∷ 2 ∷ []) 2 ≡ filled 2
+  pub too-small : replyFor passed (1 ∷ 2 ∷ []) 1 ≡ unfilled 16 0
+  pub sixteen-last : replyFor (refused 14 0) (1 ∷ 2 ∷ []) 1 ≡ unfilled 14 0
+  pub remainder : bufferFor passed (1 ∷ 2 ∷ []) (7 ∷ 8 ∷ 9 ∷ []) ≡ 1 ∷ 2 ∷ 9 ∷ []
+  pub as-lent : bufferFor passed (1 ∷ 2 ∷ []) (7 ∷ []) ≡ 7 ∷ []
+  pub after-a-refusal : bufferFor (refused 14 0) (1 ∷ 2 ∷ []) (7 ∷ 8 ∷ 9 ∷ []) ≡ 7 ∷ 8 ∷ 9 ∷ []
+  -- ---- document 01's cases
+  pub case-1 : elementNumbers 177764 350000 40000 ≡ 39986940 ∷ 761727 ∷ 19997823 ∷ 190454 ∷ 261638467 ∷ 180989278 ∷ []
+  pub case-9 : replyFor (sheetOutcome sheet9) (sheetStations sheet9) 1 ≡ filled 1
+  pub case-9-end : bufferFor (sheetOutcome sheet9) (sheetStations sheet9) (7 ∷ []) ≡ 500000000 ∷ []
+
+-- Case 1's curve as the element call answers it.
+abbrev elements1 : Elements
+elements1 =
+    record { x = 39986940; y = 761727; centre = 19997823; shift = 190454; arc = 261638467; tangent = 180989278 }
+
+-- Case 9, whose row held 7.
+stations9 : (filled 1 ≡ replyFor (sheetOutcome sheet9) (sheetStations sheet9) 1)
+    × (500000000 ∷ [] ≡ bufferFor (sheetOutcome sheet9) (sheetStations sheet9) (7 ∷ []))
+stations9 =
+    stations-reply sheet9 (sheets.examples .case-9-read) (sym (sheets.examples .case-9-line)) (7 ∷ [])
+    (sym (lines.examples .case-9), sym (lines.examples .case-9-row))
+
+pub examples : Examples
+unfolding answerNumber withRoom replyFor bufferFor
+examples =
+    record {
+      count = refl;
+      refusal = refl;
+      exact = refl;
+      too-small = refl;
+      sixteen-last = refl;
+      remainder = refl;
+      as-lent = refl;
+      after-a-refusal = refl;
+      case-1 = sym (found-numbers 177764 350000 40000 elements1 (found-elements 177764 350000 40000 elements1 (sym (curves.examples .case-1))));
+      case-9 = sym (stations9 .0);
+      case-9-end = sym (stations9 .1);
+    }

@@ -1,0 +1,99 @@
+-- What each call replies and leaves in the buffer, from the replies of the calls that it makes. Assumes nothing.
+use mathlib.Core.Path.{_≡_, refl, sym, _∙_, ap}
+use mathlib.Core.List.{List, [], _∷_}
+use Prim.Native.Nat.{ℕ, _≤_}
+use native.Mathlib.Omega.{arith}
+use lib.IntN.{natAbs}
+use lib.ListN.{length}
+use borrow.Author.Tests.{le-leb}
+use Rattle.refusals.specs.Outcomes.{Outcome, passed, refused, _▹_}
+use Rattle.refusals.specs.Filling.{FillReply, unfilled, countAfter}
+use Rattle.refusals.proofs.Joining.{passed-right}
+use Rattle.line.specs.declared.Line.{Line}
+use Rattle.sheet.specs.Layout.{firstEdition}
+use Rattle.sheet.specs.Reading.{readOutcome, readLine}
+use Rattle.sheet.specs.Writing.{writeOutcome, writeAnswer, writeBytes}
+use Rattle.sheet.proofs.WaysOut.{accepted-line, sheet-length}
+use Rattle.elements.specs.declared.Elements.{Elements}
+use Rattle.elements.specs.Answer.{valuesBy, elementOutcome}
+use Rattle.elements.proofs.Replies.{FoundElements}
+use Rattle.calculator.specs.Stations.{stationRow}
+use Rattle.calculator.specs.Answer.{alignmentOutcome, roomCheck, stationsOutcome, stationsAnswer, stationsRow}
+use Rattle.calculator.proofs.Accepted.{few}
+use Rattle.calculator.proofs.WaysOut.{row-count}
+use Rattle.station_report.specs.Report.{sheetOutcome}
+use Rattle.pokyandi.specs.Answers.{withRoom, replyFor, bufferFor}
+use Rattle.pokyandi.specs.Calls.{sheetStations, checkReply, rewritten, elementValues, elementNumbers, numbersOf}
+
+-- Checks that refuse: their refusal, and the buffer as it was.
+pub refused-reply : (checks : Outcome) (content buffer : List ℕ) {n p : ℕ} → checks ≡ refused n p
+    → (unfilled n p ≡ replyFor checks content (length buffer)) × (buffer ≡ bufferFor checks content buffer)
+unfolding replyFor bufferFor withRoom
+refused-reply checks content buffer e = rw e (refl, refl)
+
+-- ---- the calls on a sheet
+
+-- The reader's refusal is the sheet's.
+pub refused-sheet : (sheet row : List ℕ) {n p : ℕ} → readOutcome firstEdition sheet ≡ refused n p
+    → (unfilled n p ≡ replyFor (sheetOutcome sheet) (sheetStations sheet) (length row))
+    × (row ≡ bufferFor (sheetOutcome sheet) (sheetStations sheet) row)
+unfolding sheetOutcome
+refused-sheet sheet row e =
+    refused-reply (sheetOutcome sheet) (sheetStations sheet) row (ap (λ (o : Outcome). o ▹ alignmentOutcome (readLine firstEdition sheet)) e)
+
+module _ (sheet : List ℕ) (accepted : readOutcome firstEdition sheet ≡ passed) {line : Line} (same : line ≡ readLine firstEdition sheet) where
+  -- The calculator's answer for the sheet's line is the one for the sheet.
+  pub stations-reply : (row : List ℕ) {reply : FillReply} {after : List ℕ}
+      → (reply ≡ stationsAnswer line (length row)) × (after ≡ stationsRow line row)
+      → (reply ≡ replyFor (sheetOutcome sheet) (sheetStations sheet) (length row))
+      × (after ≡ bufferFor (sheetOutcome sheet) (sheetStations sheet) row)
+  unfolding stationsAnswer stationsRow stationsOutcome roomCheck replyFor bufferFor withRoom sheetOutcome sheetStations
+  stations-reply row told =
+      let E = firstEdition in (
+        told .0 ∙ ap (λ (l : Line). stationsAnswer l (length row)) same ∙ rw (accepted, row-count (readLine E sheet)) refl,
+        told .1 ∙ ap (λ (l : Line). stationsRow l row) same ∙ rw (accepted, row-count (readLine E sheet)) refl,
+      )
+
+  -- And so is the writer's.
+  pub rewrite-reply : (bytes : List ℕ) {reply : FillReply} {after : List ℕ}
+      → (reply ≡ writeAnswer firstEdition line (length bytes)) × (after ≡ writeBytes firstEdition line bytes)
+      → (reply ≡ replyFor (readOutcome firstEdition sheet) (rewritten sheet) (length bytes))
+      × (after ≡ bufferFor (readOutcome firstEdition sheet) (rewritten sheet) bytes)
+  unfolding writeAnswer writeBytes writeOutcome replyFor bufferFor withRoom rewritten
+  rewrite-reply bytes told =
+      let E = firstEdition in
+      let checked = accepted-line E sheet accepted in (
+        told .0 ∙ ap (λ (l : Line). writeAnswer E l (length bytes)) same ∙ rw (accepted, checked, sheet-length E (readLine E sheet)) refl,
+        told .1 ∙ ap (λ (l : Line). writeBytes E l bytes) same ∙ rw (accepted, checked, sheet-length E (readLine E sheet)) refl,
+      )
+
+-- No sheet has more than 257 stations, so that such a row is never too small.
+pub check-reply : (sheet : List ℕ) {room : ℕ} → 257 ≤ room → replyFor (sheetOutcome sheet) (sheetStations sheet) room ≡ checkReply sheet
+unfolding replyFor withRoom checkReply sheetStations sheetOutcome
+check-reply sheet {room} wide = go (sheetOutcome sheet) refl
+  where
+    line : Line
+    line = readLine firstEdition sheet
+
+    go : (o : Outcome) → sheetOutcome sheet ≡ o → countAfter (withRoom o (stationRow line) room) (length (stationRow line)) ≡ countAfter o (length (stationRow line))
+    go (refused n p) e = refl
+    go passed e =
+        let size = few line (passed-right (readOutcome firstEdition sheet) (alignmentOutcome line) e) in
+        rw (le-leb (length (stationRow line)) room (omega (arith, wide, row-count line, size))) refl
+
+-- ---- the call on one curve
+
+-- The numbers of elements that were answered are the rule's.
+pub found-numbers : (A R L : ℕ) (e : Elements) → FoundElements A R L e → numbersOf e ≡ elementNumbers A R L
+unfolding elementNumbers elementValues valuesBy
+found-numbers A R L e f =
+    λ j. natAbs (f .X j) ∷ natAbs (f .Y j) ∷ natAbs (f .k j) ∷ natAbs (f .p j) ∷ natAbs (f .D j) ∷ natAbs (f .TT j) ∷ []
+
+pub found-reply : (A R L : ℕ) (e : Elements) (buffer : List ℕ) {reply : FillReply} {after : List ℕ} → FoundElements A R L e
+    → (reply ≡ replyFor passed (numbersOf e) (length buffer)) × (after ≡ bufferFor passed (numbersOf e) buffer)
+    → (reply ≡ replyFor (elementOutcome A R L) (elementNumbers A R L) (length buffer))
+    × (after ≡ bufferFor (elementOutcome A R L) (elementNumbers A R L) buffer)
+found-reply A R L e buffer f told =
+    let checked = sym (f .checked) in
+    let numbers = found-numbers A R L e f in
+    (told .0 ∙ λ j. replyFor (checked j) (numbers j) (length buffer), told .1 ∙ λ j. bufferFor (checked j) (numbers j) buffer)

@@ -1,0 +1,26 @@
+-- `pokyandi_elements` meets its contract. Assumes nothing.
+use mathlib.Core.Path.{_∙_, ap}
+use Rattle.pokyandi.specs.Answers.{answerNumber}
+use borrow.Author.Needs.{needs}
+use Rattle.pokyandi.proofs.pokyandi_elements.Statement.{statement}
+use Rattle.pokyandi.proofs.pokyandi_elements.Tie as tie
+use Rattle.pokyandi.proofs.answer.answer_number.Reads as answer-number-reads
+use Rattle.pokyandi.proofs.curves.curve_numbers.Reads as curve-numbers-reads
+
+curve-numbers-requires : tie.Need-curve-numbers-requires
+curve-numbers-requires c κs = search needs
+
+answer-number-requires : tie.Need-answer-number-requires
+answer-number-requires c κs = search needs
+
+same-length : tie.Need-same-length
+same-length c = search needs
+
+returns : tie.Need-returns
+returns c =
+    let told = c .before .before .before .curve-numbers .ensures in
+    (c .answer-number .ensures ∙ ap answerNumber (told .0), told .1)
+
+pub pokyandi-elements-spec : {M : Type 1} → statement M
+pokyandi-elements-spec =
+    tie.close (tie.spec curve-numbers-requires answer-number-requires same-length returns)

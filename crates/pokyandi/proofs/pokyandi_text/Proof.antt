@@ -1,0 +1,28 @@
+-- `pokyandi_text` meets its contract. Assumes nothing.
+use mathlib.Core.Path.{_∙_, ap}
+use Rattle.report.specs.Text.{textOutcome, textAnswer, textBytes}
+use Rattle.pokyandi.specs.Answers.{withRoom, replyFor, bufferFor, answerNumber}
+use borrow.Author.Needs.{needs}
+use Rattle.pokyandi.proofs.pokyandi_text.Statement.{statement}
+use Rattle.pokyandi.proofs.pokyandi_text.Tie as tie
+use Rattle.pokyandi.proofs.answer.answer_number.Reads as answer-number-reads
+use Rattle.station_report.proofs.report_sheet.Reads as report-sheet-reads
+
+report-sheet-requires : tie.Need-report-sheet-requires
+report-sheet-requires c κs = search needs
+
+answer-number-requires : tie.Need-answer-number-requires
+answer-number-requires c κs = search needs
+
+same-length : tie.Need-same-length
+same-length c = search needs
+
+returns : tie.Need-returns
+unfolding textAnswer textBytes textOutcome withRoom replyFor bufferFor
+returns c =
+    let told = c .before .before .before .report-sheet .ensures in
+    (c .answer-number .ensures ∙ ap answerNumber (told .0), told .1)
+
+pub pokyandi-text-spec : {M : Type 1} → statement M
+pokyandi-text-spec =
+    tie.close (tie.spec report-sheet-requires answer-number-requires same-length returns)

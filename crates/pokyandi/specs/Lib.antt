@@ -1,0 +1,3 @@
+-- What the contracts of `pokyandi` cite.
+pub mod Answers
+pub mod Calls

@@ -1,0 +1,46 @@
+// The call on one curve.
+ghost use mathlib.Core.Path.{_≡_};
+ghost use lib.ListN.{length};
+ghost use Rattle.refusals.specs.Outcomes.{passed};
+ghost use Rattle.refusals.specs.Filling.{fillReplyOf};
+ghost use Rattle.elements.specs.Answer.{elementOutcome};
+ghost use Rattle.pokyandi.specs.Answers.{replyFor, bufferFor};
+ghost use Rattle.pokyandi.specs.Calls.{elementNumbers, numbersOf};
+use elements::ElementAnswer;
+use elements::Elements;
+use refusals::FillAnswer;
+use refusals::Refusal;
+
+// X, Y, k, p, D and TT at the front of `numbers`, or refusal 16.
+fn store_elements(elements: Elements, numbers: &mut [u64]) -> FillAnswer
+    ensures { λ a. ⌜ fillReplyOf a ≡ replyFor passed (numbersOf elements) (length (now (numbers .entry))) ⌝ }
+    ensures { λ _. ⌜ now (numbers .exit) ≡ bufferFor passed (numbersOf elements) (now (numbers .entry)) ⌝ }
+{
+    if numbers.len() < 6 {
+        return FillAnswer::Refused(Refusal::SmallBuffer);
+    }
+    numbers[0] = elements.x;
+    numbers[1] = elements.y;
+    numbers[2] = elements.centre;
+    numbers[3] = elements.shift;
+    numbers[4] = elements.arc;
+    numbers[5] = elements.tangent;
+    FillAnswer::Count(6)
+}
+
+// The elements of a curve at the front of `numbers`, or the first refusal.
+pub(crate) fn curve_numbers(
+    deflection: u32,
+    radius: u32,
+    spiral: u32,
+    numbers: &mut [u64],
+) -> FillAnswer
+    ensures { λ a. ⌜ fillReplyOf a ≡ replyFor (elementOutcome deflection radius spiral) (elementNumbers deflection radius spiral) (length (now (numbers .entry))) ⌝ }
+    ensures { λ _. ⌜ now (numbers .exit) ≡ bufferFor (elementOutcome deflection radius spiral) (elementNumbers deflection radius spiral) (now (numbers .entry)) ⌝ }
+{
+    let answer = elements::curve_elements(deflection, radius, spiral);
+    match answer {
+        ElementAnswer::Found(found) => store_elements(found, &mut *numbers),
+        ElementAnswer::Refused(refusal) => FillAnswer::Refused(refusal),
+    }
+}

@@ -1,0 +1,71 @@
+// The library for callers in C and Rust, whose header is `include/pokyandi.h`. An answer is one number: the count of what was
+// written at the front of the caller's buffer, or, from bit 32 on, the number of a refusal, with its place below.
+mod answer;
+mod curves;
+mod sheets;
+
+ghost use mathlib.Core.Path.{_≡_};
+ghost use lib.ListN.{length};
+ghost use Rattle.refusals.specs.Outcomes.{passed};
+ghost use Rattle.sheet.specs.Layout.{firstEdition};
+ghost use Rattle.sheet.specs.Reading.{readOutcome};
+ghost use Rattle.elements.specs.Answer.{elementOutcome};
+ghost use Rattle.station_report.specs.Report.{sheetOutcome, sheetText};
+ghost use Rattle.pokyandi.specs.Answers.{answerNumber, replyFor, bufferFor};
+ghost use Rattle.pokyandi.specs.Calls.{sheetStations, checkReply, rewritten, elementNumbers};
+use crate::answer::answer_number;
+use crate::curves::curve_numbers;
+use crate::sheets::rewrite_sheet;
+use crate::sheets::sheet_stations;
+
+// The stations of a sheet in µm, TS, SC, CS and ST of each curve in order, then the end: 4 × n + 1 numbers at the front of `row`.
+// Refusals 1 to 15, the reader's and then the calculator's, then 16.
+#[no_mangle]
+pub extern "C" fn pokyandi_stations(sheet: &[u8], row: &mut [u64]) -> u64
+    ensures answer { λ r. ⌜ r ≡ answerNumber (replyFor (sheetOutcome (now (sheet .entry))) (sheetStations (now (sheet .entry))) (length (now (row .entry)))) ⌝ }
+    ensures memory { λ _. ⌜ now (row .exit) ≡ bufferFor (sheetOutcome (now (sheet .entry))) (sheetStations (now (sheet .entry))) (now (row .entry)) ⌝ }
+{
+    answer_number(sheet_stations(sheet, &mut *row))
+}
+
+// The same checks without a row: how many stations the sheet has, or the first of refusals 1 to 15.
+#[no_mangle]
+pub extern "C" fn pokyandi_check(sheet: &[u8]) -> u64
+    ensures answer { λ r. ⌜ r ≡ answerNumber (checkReply (now (sheet .entry))) ⌝ }
+{
+    let mut row = [0u64; 257];
+    answer_number(sheet_stations(sheet, &mut row))
+}
+
+// A sheet read and written again, the same bytes (`proofs/Rewriting.antt`), at the front of `bytes`. Refusals 1 to 11, then 16.
+#[no_mangle]
+pub extern "C" fn pokyandi_rewrite(sheet: &[u8], bytes: &mut [u8]) -> u64
+    ensures answer { λ r. ⌜ r ≡ answerNumber (replyFor (readOutcome firstEdition (now (sheet .entry))) (rewritten (now (sheet .entry))) (length (now (bytes .entry)))) ⌝ }
+    ensures memory { λ _. ⌜ now (bytes .exit) ≡ bufferFor (readOutcome firstEdition (now (sheet .entry))) (rewritten (now (sheet .entry))) (now (bytes .entry)) ⌝ }
+{
+    answer_number(rewrite_sheet(sheet, &mut *bytes))
+}
+
+// The elements of one curve in µm, X, Y, k, p, D and TT: six numbers at the front of `numbers`. The deflection is in seconds of
+// arc, radius and spiral in mm. Refusals 9, 10, 11, 14, then 16, all with place 0.
+#[no_mangle]
+pub extern "C" fn pokyandi_elements(
+    deflection: u32,
+    radius: u32,
+    spiral: u32,
+    numbers: &mut [u64],
+) -> u64
+    ensures answer { λ r. ⌜ r ≡ answerNumber (replyFor (elementOutcome deflection radius spiral) (elementNumbers deflection radius spiral) (length (now (numbers .entry)))) ⌝ }
+    ensures memory { λ _. ⌜ now (numbers .exit) ≡ bufferFor (elementOutcome deflection radius spiral) (elementNumbers deflection radius spiral) (now (numbers .entry)) ⌝ }
+{
+    answer_number(curve_numbers(deflection, radius, spiral, &mut *numbers))
+}
+
+// What the program `stations` prints for a sheet, at the front of `text`. Refusal 16.
+#[no_mangle]
+pub extern "C" fn pokyandi_text(sheet: &[u8], text: &mut [u8]) -> u64
+    ensures answer { λ r. ⌜ r ≡ answerNumber (replyFor passed (sheetText (now (sheet .entry))) (length (now (text .entry)))) ⌝ }
+    ensures memory { λ _. ⌜ now (text .exit) ≡ bufferFor passed (sheetText (now (sheet .entry))) (now (text .entry)) ⌝ }
+{
+    answer_number(station_report::report_sheet(sheet, &mut *text))
+}

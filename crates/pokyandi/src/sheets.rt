@@ -1,0 +1,37 @@
+// The calls on a sheet: the reader, then the calculator or the writer.
+ghost use mathlib.Core.Path.{_≡_};
+ghost use lib.ListN.{length};
+ghost use Rattle.refusals.specs.Filling.{fillReplyOf};
+ghost use Rattle.sheet.specs.Layout.{firstEdition};
+ghost use Rattle.sheet.specs.Reading.{readOutcome};
+ghost use Rattle.station_report.specs.Report.{sheetOutcome};
+ghost use Rattle.pokyandi.specs.Answers.{replyFor, bufferFor};
+ghost use Rattle.pokyandi.specs.Calls.{sheetStations, rewritten};
+use refusals::FillAnswer;
+use refusals::Verdict;
+
+// The stations of a sheet at the front of `row`, or the first refusal of reader and calculator.
+pub(crate) fn sheet_stations(sheet: &[u8], row: &mut [u64]) -> FillAnswer
+    ensures { λ a. ⌜ fillReplyOf a ≡ replyFor (sheetOutcome (now (sheet .entry))) (sheetStations (now (sheet .entry))) (length (now (row .entry))) ⌝ }
+    ensures { λ _. ⌜ now (row .exit) ≡ bufferFor (sheetOutcome (now (sheet .entry))) (sheetStations (now (sheet .entry))) (now (row .entry)) ⌝ }
+{
+    let read = sheet::read(sheet);
+    let verdict = read.verdict;
+    match verdict {
+        Verdict::Pass => calculator::stations(read.line, &mut *row),
+        Verdict::Refused(refusal) => FillAnswer::Refused(refusal),
+    }
+}
+
+// A sheet read and written again at the front of `bytes`, or the reader's refusal.
+pub(crate) fn rewrite_sheet(sheet: &[u8], bytes: &mut [u8]) -> FillAnswer
+    ensures { λ a. ⌜ fillReplyOf a ≡ replyFor (readOutcome firstEdition (now (sheet .entry))) (rewritten (now (sheet .entry))) (length (now (bytes .entry))) ⌝ }
+    ensures { λ _. ⌜ now (bytes .exit) ≡ bufferFor (readOutcome firstEdition (now (sheet .entry))) (rewritten (now (sheet .entry))) (now (bytes .entry)) ⌝ }
+{
+    let read = sheet::read(sheet);
+    let verdict = read.verdict;
+    match verdict {
+        Verdict::Pass => sheet::write(read.line, &mut *bytes),
+        Verdict::Refused(refusal) => FillAnswer::Refused(refusal),
+    }
+}
