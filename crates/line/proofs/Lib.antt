@@ -3,5 +3,6 @@ pub mod Walk
 pub mod InRange
 pub mod Unused
 pub mod Entries
+pub mod Sides
 pub mod Numbers
 pub mod Examples

@@ -1,9 +1,15 @@
--- The used and the unused entries of a line (document 01, "The line" and "Packed sheet").
+-- The used and the unused entries of a line, and a side as a number (document 01, "The line" and "Packed sheet").
+use mathlib.Core.Bool.{Bool, true, false}
 use mathlib.Core.List.{List, [], _∷_}
 use Prim.Native.Nat.{ℕ, zero, suc}
 use lib.ListN.{replicate}
 use Rattle.line.specs.declared.Line.{Line}
 use Rattle.line.specs.Checks.{distanceAt, blankCurve, curveAt}
+
+-- "side (0 right, 1 left ..)"
+abbrev pub sideBit : Bool → ℕ
+sideBit false = 0
+sideBit true = 1
 
 -- `size` entries: the first `used` are f 0, f 1, .., the others `blank`.
 unfoldable pub entries : {A : Type 0} → ℕ → ℕ → (ℕ → A) → A → List A

@@ -1,6 +1,9 @@
 // The line of document 01: its fields with their units, and the checks of its fields.
 mod checks;
 
+ghost use mathlib.Core.Path.{_≡_};
+ghost use Rattle.line.specs.Entries.{sideBit};
+
 pub use checks::check_curve;
 pub use checks::check_head;
 pub use checks::check_line;
@@ -32,4 +35,11 @@ pub struct Line {
     // From the start to PI 1, from PI to PI, and from the last PI to the end, in mm.
     pub distances: [u32; 65],
     pub curves: [Curve; 64],
+}
+
+// A side as a number: 0 right, 1 left.
+pub fn side_bit(left: bool) -> u32
+    ensures { λ r. ⌜ r ≡ sideBit left ⌝ }
+{
+    if left { 1 } else { 0 }
 }

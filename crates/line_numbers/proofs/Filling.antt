@@ -1,17 +1,19 @@
--- The line that is filled entry by entry. Assumes nothing.
-use mathlib.Core.Path.{_≡_, refl}
+-- The line of numbers, filled entry by entry. Assumes nothing.
+use mathlib.Core.Path.{_≡_, refl, _∙_, ap}
 use mathlib.Core.List.{List}
-use Prim.Native.Nat.{ℕ, _+_, _<_}
+use Prim.Native.Nat.{ℕ, suc, _+_, _<_}
+use native.Mathlib.Numerals.{add-one}
+use native.Mathlib.Decide.{decLt}
 use native.Mathlib.Omega.{arith}
 use lib.ListN.{set, replicate}
 use Rattle.line.specs.declared.Curve.{Curve}
 use Rattle.line.specs.declared.Line.{Line}
 use Rattle.line.specs.Checks.{blankCurve}
 use Rattle.line.specs.Entries.{entries}
-use Rattle.line.proofs.Entries.{entries-set}
-use Rattle.line_numbers.specs.Numbers.{numberAt, distanceOf, curveOf, lineOf}
+use Rattle.line.proofs.Entries.{entries-set, entries-full}
+use Rattle.line_numbers.specs.Numbers.{numberAt, distanceOf, curveOf, lineOf, Held}
 
--- The line after i curves and the distances before and after them.
+-- The line with the first i curves and the distances before and after them.
 unfoldable pub lineTo : List ℕ → ℕ → Line
 lineTo numbers i =
     record {
@@ -56,6 +58,21 @@ line-goes-on numbers i l c d h e p q =
       curves = entries-set 64 i (curveOf numbers) blankCurve h j;
     })
 
-pub line-done : (numbers : List ℕ) → lineTo numbers 64 ≡ lineOf numbers
+-- As many curves as the line holds.
+pub line-done : (numbers : List ℕ) {n i : ℕ} → n ≡ numberAt numbers 0 → Held n i → lineTo numbers i ≡ lineOf numbers
 unfolding lineTo lineOf
-line-done numbers = refl
+line-done numbers {n} {i} e held = go (decLt i 64)
+  where
+    go : Dec (i < 64) → lineTo numbers i ≡ lineOf numbers
+    go (yes h) = ap (lineTo numbers) (held .all h ∙ e) ∙ rw (add-one (numberAt numbers 0)) refl
+    go (no h) =
+        let full : i ≡ 64 = omega (arith, held .room) in
+        ap (lineTo numbers) full
+        ∙ λ j. record {
+          speed = numberAt numbers 1;
+          crossfall = numberAt numbers 2;
+          start = numberAt numbers 3;
+          count = numberAt numbers 0;
+          distances = entries-full 65 (suc (numberAt numbers 0)) (distanceOf numbers) 0 (omega (arith, held .most, e)) j;
+          curves = entries-full 64 (numberAt numbers 0) (curveOf numbers) blankCurve (omega (arith, held .most, e)) j;
+        }

@@ -1,3 +1,3 @@
--- Laws of the line that numbers spell, and examples.
+-- Laws of a line by its numbers, and examples.
 pub mod Filling
-pub mod Examples
+pub mod Storing

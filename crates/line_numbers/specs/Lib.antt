@@ -1,2 +1,2 @@
--- What the contracts of `line_text` cite.
+-- What the contracts of `line_numbers` cite.
 pub mod Numbers

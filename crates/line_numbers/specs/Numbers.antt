@@ -1,33 +1,69 @@
--- The line that the numbers of a text spell: N V E START D0 SIDE A R L D1 SIDE A R L D2 .. The format is this project's own
--- (docs/station_table.md).
-use mathlib.Core.List.{List}
-use Prim.Native.Nat.{ℕ, _+_, _*_}
-use lib.Dec.{eqb}
-use lib.ListN.{getD}
+-- A line as numbers, for callers in other languages: n, V, e, start, distance 0, then side, A, R, L and the distance after it for each curve,
+-- in document 01's units and in the order of its sheet. The form is this project's own (docs/library.md).
+use mathlib.Core.Path.{_≡_}
+use mathlib.Core.Bool.{_&&_, cond}
+use mathlib.Core.List.{List, [], _∷_, _++_}
+use Prim.Native.Nat.{ℕ, zero, suc, _+_, _*_, _≤_, _<_}
+use lib.Dec.{leb, eqb}
+use lib.ListN.{length, getD}
+use Rattle.refusals.specs.Outcomes.{Outcome, need, _▹_}
 use Rattle.line.specs.declared.Curve.{Curve}
 use Rattle.line.specs.declared.Line.{Line}
-use Rattle.line.specs.Checks.{blankCurve}
-use Rattle.line.specs.Entries.{entries}
+use Rattle.line.specs.Checks.{distanceAt, blankCurve, curveAt, lineOutcome}
+use Rattle.line.specs.Entries.{sideBit, entries}
+
+-- How many numbers a line of n curves has.
+abbrev pub numberCount : ℕ → ℕ
+numberCount n = 5 + 5 * n
+
+-- ---- the numbers of a line
+
+-- n, V, e, start, distance 0
+abbrev pub headNumbers : Line → List ℕ
+headNumbers line = line .count ∷ line .speed ∷ line .crossfall ∷ line .start ∷ distanceAt line 0 ∷ []
+
+-- Side, A, R, L of the curve at entry i, then the distance after it.
+abbrev pub entryNumbers : Line → ℕ → List ℕ
+entryNumbers line i =
+    sideBit (curveAt line i .left) ∷ curveAt line i .deflection ∷ curveAt line i .radius ∷ curveAt line i .spiral ∷ distanceAt line (suc i) ∷ []
+
+-- Those of the head and of the first i entries.
+unfoldable pub numbersTo : Line → ℕ → List ℕ
+numbersTo line zero = headNumbers line
+numbersTo line (suc i) = numbersTo line i ++ entryNumbers line i
+
+unfoldable pub lineNumbers : Line → List ℕ
+lineNumbers line = numbersTo line (line .count)
+
+-- 3: "n over 64", where a line is to be written as numbers
+abbrev pub fewOutcome : Line → Outcome
+fewOutcome line = need (leb (line .count) 64) 3 0
+
+-- ---- the line of numbers
 
 -- The number at an index; 0 where there is none.
 abbrev pub numberAt : List ℕ → ℕ → ℕ
 numberAt numbers index = getD numbers index 0
 
--- The distance of an index: D0, D1, ..
+-- Distance i.
 abbrev pub distanceOf : List ℕ → ℕ → ℕ
 distanceOf numbers i = numberAt numbers (4 + 5 * i)
 
--- The curve of an entry, SIDE A R L: SIDE 1 is left, any other right.
+-- "side (0 right, 1 left, a field of two values only)": a deflection to another side is none, and counts as 0, which 9 refuses.
+unfoldable pub turnOf : (side A : ℕ) → ℕ
+turnOf side A = cond (leb side 1) A 0
+
+-- The curve at entry i.
 unfoldable pub curveOf : List ℕ → ℕ → Curve
 curveOf numbers i =
     record {
       left = eqb (numberAt numbers (5 + 5 * i)) 1;
-      deflection = numberAt numbers (6 + 5 * i);
+      deflection = turnOf (numberAt numbers (5 + 5 * i)) (numberAt numbers (6 + 5 * i));
       radius = numberAt numbers (7 + 5 * i);
       spiral = numberAt numbers (8 + 5 * i);
     }
 
--- The line: N V E START, all 65 distances and all 64 curves.
+-- The line, its unused entries zero.
 unfoldable pub lineOf : List ℕ → Line
 lineOf numbers =
     record {
@@ -35,6 +71,20 @@ lineOf numbers =
       crossfall = numberAt numbers 2;
       start = numberAt numbers 3;
       count = numberAt numbers 0;
-      distances = entries 65 65 (distanceOf numbers) 0;
-      curves = entries 64 64 (curveOf numbers) blankCurve;
+      distances = entries 65 (suc (numberAt numbers 0)) (distanceOf numbers) 0;
+      curves = entries 64 (numberAt numbers 0) (curveOf numbers) blankCurve;
     }
+
+-- How many of `count` curves a line holds: all, or the 64 that it has room for.
+pub record Held (count held : ℕ) : Type 0 where
+  pub room : held ≤ 64
+  pub most : held ≤ count
+  pub all : held < 64 → held ≡ count
+
+-- 3: "n over 64", or other than the numbers of n curves
+unfoldable pub countOutcome : List ℕ → Outcome
+countOutcome numbers = need (leb (numberAt numbers 0) 64 && eqb (length numbers) (numberCount (numberAt numbers 0))) 3 0
+
+-- The first refusal of numbers: 3, then the writer's "3 to 6, 8 to 11 likewise" of their line.
+unfoldable pub numbersOutcome : List ℕ → Outcome
+numbersOutcome numbers = countOutcome numbers ▹ lineOutcome (lineOf numbers)

@@ -9,7 +9,7 @@ use lib.ListN.{length}
 use lib.IntN.{pos}
 use lib.Signed.{leZ}
 use Rattle.refusals.specs.Outcomes.{Outcome, passed, refused, need}
-use Rattle.refusals.specs.Filling.{FillReply, filled, unfilled, countAfter}
+use Rattle.refusals.specs.Filling.{FillReply, filled, unfilled, countAfter, withRoom, replyFor}
 use Rattle.refusals.proofs.Numbers.{Refuses, one-number, joined-numbers, wider}
 use Rattle.refusals.proofs.Joining.{never, passed-left, passed-right}
 use Rattle.line.specs.Checks.{curveOutcome}
@@ -27,7 +27,7 @@ use Rattle.calculator.proofs.Accepted.{few}
 use Rattle.calculator.proofs.WaysOut.{row-count}
 use Rattle.station_report.specs.Report.{sheetOutcome, sheetText}
 use Rattle.station_report.proofs.Fits.{sheet-numbers, fits}
-use Rattle.pokyandi.specs.Answers.{answerNumber, withRoom, replyFor}
+use Rattle.pokyandi.specs.Answers.{answerNumber}
 use Rattle.pokyandi.specs.Calls.{sheetStations, checkReply, rewritten, elementValues, elementNumbers}
 
 -- The upper and the lower half of an answer tell the reply.

@@ -1,8 +1,7 @@
--- Answers and buffers by computation, and document 01's cases 1 and 9 as the calls for C and Rust give them. Assumes nothing.
+-- Answers by computation, and document 01's cases 1 and 9 as the calls for C and Rust give them. Assumes nothing.
 use mathlib.Core.Path.{_≡_, refl, sym}
 use mathlib.Core.List.{[], _∷_}
-use Rattle.refusals.specs.Outcomes.{passed, refused}
-use Rattle.refusals.specs.Filling.{filled, unfilled}
+use Rattle.refusals.specs.Filling.{filled, unfilled, replyFor, bufferFor}
 use Rattle.sheet.proofs.Examples.{sheet9}
 use Rattle.sheet.proofs.Examples as sheets
 use Rattle.elements.specs.declared.Elements.{Elements}
@@ -10,20 +9,13 @@ use Rattle.elements.proofs.Replies.{found-elements}
 use Rattle.elements.proofs.Examples as curves
 use Rattle.calculator.proofs.Examples as lines
 use Rattle.station_report.specs.Report.{sheetOutcome}
-use Rattle.pokyandi.specs.Answers.{answerNumber, withRoom, replyFor, bufferFor}
+use Rattle.pokyandi.specs.Answers.{answerNumber}
 use Rattle.pokyandi.specs.Calls.{sheetStations, elementNumbers}
 use Rattle.pokyandi.proofs.Replies.{stations-reply, found-numbers}
 
 pub record Examples : Type 0 where
   pub count : answerNumber (filled 257) ≡ 257
   pub refusal : answerNumber (unfilled 15 64) ≡ 64424509504
-  -- ---- a call that writes 1 and 2
-  pub exact : replyFor passed (1 ∷ 2 ∷ []) 2 ≡ filled 2
-  pub too-small : replyFor passed (1 ∷ 2 ∷ []) 1 ≡ unfilled 16 0
-  pub sixteen-last : replyFor (refused 14 0) (1 ∷ 2 ∷ []) 1 ≡ unfilled 14 0
-  pub remainder : bufferFor passed (1 ∷ 2 ∷ []) (7 ∷ 8 ∷ 9 ∷ []) ≡ 1 ∷ 2 ∷ 9 ∷ []
-  pub as-lent : bufferFor passed (1 ∷ 2 ∷ []) (7 ∷ []) ≡ 7 ∷ []
-  pub after-a-refusal : bufferFor (refused 14 0) (1 ∷ 2 ∷ []) (7 ∷ 8 ∷ 9 ∷ []) ≡ 7 ∷ 8 ∷ 9 ∷ []
   -- ---- document 01's cases
   pub case-1 : elementNumbers 177764 350000 40000 ≡ 39986940 ∷ 761727 ∷ 19997823 ∷ 190454 ∷ 261638467 ∷ 180989278 ∷ []
   pub case-9 : replyFor (sheetOutcome sheet9) (sheetStations sheet9) 1 ≡ filled 1
@@ -42,17 +34,11 @@ stations9 =
     (sym (lines.examples .case-9), sym (lines.examples .case-9-row))
 
 pub examples : Examples
-unfolding answerNumber withRoom replyFor bufferFor
+unfolding answerNumber
 examples =
     record {
       count = refl;
       refusal = refl;
-      exact = refl;
-      too-small = refl;
-      sixteen-last = refl;
-      remainder = refl;
-      as-lent = refl;
-      after-a-refusal = refl;
       case-1 = sym (found-numbers 177764 350000 40000 elements1 (found-elements 177764 350000 40000 elements1 (sym (curves.examples .case-1))));
       case-9 = sym (stations9 .0);
       case-9-end = sym (stations9 .1);

@@ -7,8 +7,9 @@ use lib.IntN.{natAbs}
 use lib.ListN.{length}
 use borrow.Author.Tests.{le-leb}
 use Rattle.refusals.specs.Outcomes.{Outcome, passed, refused, _▹_}
-use Rattle.refusals.specs.Filling.{FillReply, unfilled, countAfter}
+use Rattle.refusals.specs.Filling.{FillReply, unfilled, countAfter, withRoom, replyFor, bufferFor}
 use Rattle.refusals.proofs.Joining.{passed-right}
+use Rattle.refusals.proofs.FillWays.{refused-reply}
 use Rattle.line.specs.declared.Line.{Line}
 use Rattle.sheet.specs.Layout.{firstEdition}
 use Rattle.sheet.specs.Reading.{readOutcome, readLine}
@@ -22,14 +23,7 @@ use Rattle.calculator.specs.Answer.{alignmentOutcome, roomCheck, stationsOutcom
 use Rattle.calculator.proofs.Accepted.{few}
 use Rattle.calculator.proofs.WaysOut.{row-count}
 use Rattle.station_report.specs.Report.{sheetOutcome}
-use Rattle.pokyandi.specs.Answers.{withRoom, replyFor, bufferFor}
 use Rattle.pokyandi.specs.Calls.{sheetStations, checkReply, rewritten, elementValues, elementNumbers, numbersOf}
-
--- Checks that refuse: their refusal, and the buffer as it was.
-pub refused-reply : (checks : Outcome) (content buffer : List ℕ) {n p : ℕ} → checks ≡ refused n p
-    → (unfilled n p ≡ replyFor checks content (length buffer)) × (buffer ≡ bufferFor checks content buffer)
-unfolding replyFor bufferFor withRoom
-refused-reply checks content buffer e = rw e (refl, refl)
 
 -- ---- the calls on a sheet
 

@@ -8,7 +8,7 @@ use Rattle.sheet.specs.Bits.{Bytes}
 use Rattle.sheet.specs.Layout.{firstEdition}
 use Rattle.sheet.specs.Reading.{readOutcome}
 use Rattle.sheet.proofs.RoundTrip.{read-then-write}
-use Rattle.pokyandi.specs.Answers.{withRoom, replyFor, bufferFor}
+use Rattle.refusals.specs.Filling.{withRoom, replyFor, bufferFor}
 use Rattle.pokyandi.specs.Calls.{rewritten}
 
 -- For every sheet, refused or not, and every buffer.

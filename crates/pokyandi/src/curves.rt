@@ -2,9 +2,8 @@
 ghost use mathlib.Core.Path.{_≡_};
 ghost use lib.ListN.{length};
 ghost use Rattle.refusals.specs.Outcomes.{passed};
-ghost use Rattle.refusals.specs.Filling.{fillReplyOf};
+ghost use Rattle.refusals.specs.Filling.{fillReplyOf, replyFor, bufferFor};
 ghost use Rattle.elements.specs.Answer.{elementOutcome};
-ghost use Rattle.pokyandi.specs.Answers.{replyFor, bufferFor};
 ghost use Rattle.pokyandi.specs.Calls.{elementNumbers, numbersOf};
 use elements::ElementAnswer;
 use elements::Elements;

@@ -4,3 +4,4 @@ pub mod InTurn
 pub mod Numbers
 pub mod Filled
 pub mod FillWays
+pub mod Examples

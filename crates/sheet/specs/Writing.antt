@@ -1,5 +1,4 @@
 -- The sheet of a line (document 01, "Packed sheet"), and what the writer answers and leaves in the caller's bytes ("Order").
-use mathlib.Core.Bool.{Bool, true, false}
 use mathlib.Core.List.{List, [], _∷_}
 use Prim.Native.Nat.{ℕ, zero, suc}
 use lib.Dec.{leb}
@@ -9,13 +8,9 @@ use Rattle.refusals.specs.Filling.{FillReply, countAfter, bufferAfter}
 use Rattle.line.specs.declared.Curve.{Curve}
 use Rattle.line.specs.declared.Line.{Line}
 use Rattle.line.specs.Checks.{distanceAt, curveAt, lineOutcome}
+use Rattle.line.specs.Entries.{sideBit}
 use Rattle.sheet.specs.Bits.{packed, bytesOf}
 use Rattle.sheet.specs.Layout.{Edition, headWidths, distanceWidth, entryWidths, byteCount, fillWidth}
-
--- "side (0 right, 1 left ..)"
-abbrev pub sideBit : Bool → ℕ
-sideBit false = 0
-sideBit true = 1
 
 -- The head's fields: edition, n, V, e, start.
 abbrev pub headValues : Edition → Line → List ℕ

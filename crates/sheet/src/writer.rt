@@ -8,7 +8,7 @@ ghost use Rattle.refusals.specs.Filling.{fillReplyOf};
 ghost use Rattle.line.specs.Checks.{lineOutcome};
 ghost use Rattle.sheet.specs.Bits.{packed, total, Fit};
 ghost use Rattle.sheet.specs.Layout.{firstEdition, headWidths, entryWidths, byteCount};
-ghost use Rattle.sheet.specs.Writing.{sideBit, curveValues, entriesAfter, sheetOf, writeAnswer, writeBytes};
+ghost use Rattle.sheet.specs.Writing.{curveValues, entriesAfter, sheetOf, writeAnswer, writeBytes};
 ghost use Rattle.sheet.specs.Pens.{Put, position};
 use crate::layout::COUNT;
 use crate::layout::CROSSFALL;
@@ -28,15 +28,10 @@ use crate::pen::put;
 use line::Curve;
 use line::Line;
 use line::check_line;
+use line::side_bit;
 use refusals::FillAnswer;
 use refusals::Refusal;
 use refusals::Verdict;
-
-fn side_bit(left: bool) -> u32
-    ensures { λ r. ⌜ r ≡ sideBit left ⌝ }
-{
-    if left { 1 } else { 0 }
-}
 
 // The head.
 fn put_head(bytes: &mut [u8], pen: Pen, count: u32, speed: u32, crossfall: u32, start: u32) -> Pen

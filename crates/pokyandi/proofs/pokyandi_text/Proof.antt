@@ -1,7 +1,8 @@
 -- `pokyandi_text` meets its contract. Assumes nothing.
 use mathlib.Core.Path.{_∙_, ap}
 use Rattle.report.specs.Text.{textOutcome, textAnswer, textBytes}
-use Rattle.pokyandi.specs.Answers.{withRoom, replyFor, bufferFor, answerNumber}
+use Rattle.refusals.specs.Filling.{withRoom, replyFor, bufferFor}
+use Rattle.pokyandi.specs.Answers.{answerNumber}
 use borrow.Author.Needs.{needs}
 use Rattle.pokyandi.proofs.pokyandi_text.Statement.{statement}
 use Rattle.pokyandi.proofs.pokyandi_text.Tie as tie

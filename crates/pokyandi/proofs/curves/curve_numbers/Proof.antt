@@ -2,7 +2,8 @@
 use mathlib.Core.Path.{sym, _∙_, ap}
 use Rattle.elements.specs.Answer.{replyOf}
 use Rattle.elements.proofs.Replies.{found-elements, refused-elements}
-use Rattle.pokyandi.proofs.Replies.{refused-reply, found-reply}
+use Rattle.refusals.proofs.FillWays.{refused-reply}
+use Rattle.pokyandi.proofs.Replies.{found-reply}
 use borrow.Author.Needs.{needs}
 use Rattle.pokyandi.proofs.curves.curve_numbers.Statement.{statement}
 use Rattle.pokyandi.proofs.curves.curve_numbers.Tie as tie

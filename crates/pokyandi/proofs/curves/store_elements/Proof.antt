@@ -5,7 +5,7 @@ use lib.ListN.{length-set}
 use lib.Seq.{sets-eq}
 use Rattle.refusals.specs.Outcomes.{passed}
 use Rattle.refusals.proofs.FillWays.{too-small, filled-whole}
-use Rattle.pokyandi.specs.Answers.{withRoom, replyFor, bufferFor}
+use Rattle.refusals.specs.Filling.{withRoom, replyFor, bufferFor}
 use Rattle.pokyandi.specs.Calls.{numbersOf}
 use borrow.Author.Needs.{needs}
 use Rattle.pokyandi.proofs.curves.store_elements.Statement.{statement}

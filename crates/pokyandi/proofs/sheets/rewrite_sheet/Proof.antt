@@ -1,7 +1,8 @@
 -- `rewrite_sheet` meets its contract. Assumes nothing.
 use mathlib.Core.Path.{sym, _∙_, ap}
 use Rattle.refusals.specs.Outcomes.{outcomeOf}
-use Rattle.pokyandi.proofs.Replies.{refused-reply, rewrite-reply}
+use Rattle.refusals.proofs.FillWays.{refused-reply}
+use Rattle.pokyandi.proofs.Replies.{rewrite-reply}
 use borrow.Author.Needs.{needs}
 use Rattle.pokyandi.proofs.sheets.rewrite_sheet.Statement.{statement}
 use Rattle.pokyandi.proofs.sheets.rewrite_sheet.Tie as tie

@@ -3,17 +3,20 @@ use mathlib.Core.Path.{_≡_, _∙_, ap}
 use Prim.Native.Nat.{_-_, _≤_}
 use borrow.Author.Needs.{needs}
 use Rattle.line_numbers.proofs.Filling.{lineTo, line-begun, line-goes-on, line-done}
-use Rattle.line_numbers.proofs.line_of.Statement.{statement}
-use Rattle.line_numbers.proofs.line_of.Tie as tie
+use Rattle.line_numbers.proofs.reader.line_of.Statement.{statement}
+use Rattle.line_numbers.proofs.reader.line_of.Tie as tie
 
 abbrev Inv-loop : tie.InvT-loop
-Inv-loop numbers line₀ i₀ line i = (i ≤ 64) × (line ≡ lineTo numbers i)
+Inv-loop numbers n line₀ used i₀ line i = (i ≤ used) × (line ≡ lineTo numbers i)
 
 abbrev μ-loop : tie.MeasureT-loop
-μ-loop numbers line₀ i₀ line i = 64 - i
+μ-loop numbers n line₀ used i₀ line i = used - i
 
 number-at-requires : tie.Need-number-at-requires Inv-loop μ-loop
 number-at-requires c κs = search needs
+
+cast-n : tie.Need-cast-n Inv-loop μ-loop
+cast-n c = search needs
 
 number-at-requires-2 : tie.Need-number-at-requires-2 Inv-loop μ-loop
 number-at-requires-2 c κs = search needs
@@ -24,22 +27,23 @@ number-at-requires-3 c κs = search needs
 number-at-requires-4 : tie.Need-number-at-requires-4 Inv-loop μ-loop
 number-at-requires-4 c κs = search needs
 
-cast-t8 : tie.Need-cast-t8 Inv-loop μ-loop
-cast-t8 c = search needs
-
 number-at-requires-5 : tie.Need-number-at-requires-5 Inv-loop μ-loop
 number-at-requires-5 c κs = search needs
 
 element-write-line : tie.Need-element-write-line Inv-loop μ-loop
 element-write-line c = search needs
 
+held-requires : tie.Need-held-requires Inv-loop μ-loop
+held-requires c κs = search needs
+
 loop-holds : tie.Need-loop-holds Inv-loop μ-loop
 loop-holds c =
     let third = c .before .before in
     let first = third .before .before in
-    let numbers = first .before .before .args .numbers .now in (
+    let n = first .before in
+    let numbers = n .before .before .args .numbers .now in (
       search needs,
-      line-begun numbers _ _ _ _ _ (first .number-at .ensures) (third .before .number-at2 .ensures) (third .number-at3 .ensures) (c .before .number-at4 .ensures) (c .number-at5 .ensures),
+      line-begun numbers _ _ _ _ _ (first .number-at2 .ensures) (third .before .number-at3 .ensures) (third .number-at4 .ensures) (n .number-at .ensures) (c .before .number-at5 .ensures),
     )
 
 curve-of-requires : tie.Need-curve-of-requires Inv-loop μ-loop
@@ -81,9 +85,10 @@ loop-again c =
 
 returns : tie.Need-returns Inv-loop μ-loop
 returns c =
-    let numbers = c .before .before .before .before .before .before .before .before .args .numbers .now in
-    let all : c .before .loop .i ≡ 64 = search needs in
-    c .before .loop .inv .1 ∙ ap (lineTo numbers) all ∙ line-done numbers
+    let held = c .before .before .held in
+    let numbers = c .before .before .before .before .before .before .before .before .before .args .numbers .now in
+    let all : c .before .loop .i ≡ held .result = search needs in
+    c .before .loop .inv .1 ∙ ap (lineTo numbers) all ∙ line-done numbers (c .before .before .before .before .before .before .before .number-at .ensures) (held .ensures)
 
 pub line-of-spec : {M : Type 1} → statement M
 line-of-spec =
@@ -92,12 +97,13 @@ line-of-spec =
     Inv-loop
     μ-loop
     number-at-requires
+    cast-n
     number-at-requires-2
     number-at-requires-3
     number-at-requires-4
-    cast-t8
     number-at-requires-5
     element-write-line
+    held-requires
     loop-holds
     curve-of-requires
     mul-t16

@@ -1,8 +1,8 @@
 -- `curve_of`: each number by its index. Assumes nothing.
-use Rattle.line_numbers.specs.Numbers.{curveOf}
+use Rattle.line_numbers.specs.Numbers.{turnOf, curveOf}
 use borrow.Author.Needs.{needs}
-use Rattle.line_numbers.proofs.curve_of.Statement.{statement}
-use Rattle.line_numbers.proofs.curve_of.Tie as tie
+use Rattle.line_numbers.proofs.reader.curve_of.Statement.{statement}
+use Rattle.line_numbers.proofs.reader.curve_of.Tie as tie
 
 mul-before : tie.Need-mul-before
 mul-before c = search needs
@@ -19,6 +19,9 @@ add-number-at-2 c = search needs
 number-at-requires-2 : tie.Need-number-at-requires-2
 number-at-requires-2 c κs = search needs
 
+turn-of-requires : tie.Need-turn-of-requires
+turn-of-requires c κs = search needs
+
 add-number-at-3 : tie.Need-add-number-at-3
 add-number-at-3 c = search needs
 
@@ -34,12 +37,9 @@ number-at-requires-4 c κs = search needs
 returns : tie.Need-returns
 unfolding curveOf
 returns c =
-    rw (
-      c .before .before .before .number-at .ensures,
-      c .before .before .number-at2 .ensures,
-      c .before .number-at3 .ensures,
-      c .number-at4 .ensures,
-    )
+    let side = c .before .before .before .before .number-at .ensures in
+    let deflection = c .before .before .before .number-at2 .ensures in
+    rw (c .before .before .turn-of .ensures, side, deflection, c .before .number-at3 .ensures, c .number-at4 .ensures)
 
 pub curve-of-spec : {M : Type 1} → statement M
 curve-of-spec =
@@ -50,6 +50,7 @@ curve-of-spec =
     number-at-requires
     add-number-at-2
     number-at-requires-2
+    turn-of-requires
     add-number-at-3
     number-at-requires-3
     add-number-at-4

@@ -2,8 +2,8 @@
 use mathlib.Core.Path.{sym}
 use lib.ListN.{List·getD-eq-default}
 use borrow.Author.Needs.{needs}
-use Rattle.line_numbers.proofs.number_at.Statement.{statement}
-use Rattle.line_numbers.proofs.number_at.Tie as tie
+use Rattle.line_numbers.proofs.reader.number_at.Statement.{statement}
+use Rattle.line_numbers.proofs.reader.number_at.Tie as tie
 
 returns : tie.Need-returns
 returns c = sym (List·getD-eq-default (c .before .args .numbers .now) 0 (c .if1 .taken))
