@@ -5,9 +5,10 @@ use native.Mathlib.Omega.{arith}
 use Rattle.line.specs.declared.Line.{Line}
 use Rattle.line.specs.Checks.{distanceAt, curveAt}
 use Rattle.line.specs.Ranges.{LineInRange}
+use Rattle.line.specs.Entries.{sideBit}
 use Rattle.sheet.specs.Bits.{Fit}
 use Rattle.sheet.specs.Layout.{Edition, firstEdition, Holds, headWidths, distanceWidth, entryWidths}
-use Rattle.sheet.specs.Writing.{sideBit, headValues, entryValues}
+use Rattle.sheet.specs.Writing.{headValues, entryValues}
 
 side-fits : (left : Bool) → sideBit left < 2 ^ 1
 side-fits false = omega arith

@@ -15,7 +15,7 @@ use Rattle.refusals.proofs.Joining.{passed-left}
 use Rattle.line.specs.declared.Curve.{Curve}
 use Rattle.line.specs.declared.Line.{Line}
 use Rattle.line.specs.Checks.{distanceAt, blankCurve, curveAt, headOutcome, lineOutcome}
-use Rattle.line.specs.Entries.{entries, cleared}
+use Rattle.line.specs.Entries.{sideBit, entries, cleared}
 use Rattle.line.specs.Ranges.{LineInRange}
 use Rattle.line.proofs.Entries.{entries-same}
 use Rattle.line.proofs.InRange.{line-passes}
@@ -23,7 +23,7 @@ use Rattle.line.proofs.Unused.{unused-ignored, cleared-alike}
 use Rattle.sheet.specs.Bits.{valueOf, bitsAt, valuesAt, total, Fit}
 use Rattle.sheet.specs.Layout.{Edition, Holds, headWidths, distanceWidth, entryWidths, entryAt, bitCount, byteCount, fillWidth}
 use Rattle.sheet.specs.Reading.{headFrom, curveFrom, headOf, distanceOf, curveOf, lineOf, sizeOutcome, frameOutcome, readOutcome}
-use Rattle.sheet.specs.Writing.{sideBit, headValues, curveValues, entryValues, entriesAfter, numberTo, sheetNumber, sheetOf}
+use Rattle.sheet.specs.Writing.{headValues, curveValues, entryValues, entriesAfter, numberTo, sheetNumber, sheetOf}
 use Rattle.sheet.proofs.Bytes.{value-bytes}
 use Rattle.sheet.proofs.Fields.{upTo, all-bits, packed-read, packed-lt}
 use Rattle.sheet.proofs.Fitting.{head-fits, distance-fits, entry-fits}

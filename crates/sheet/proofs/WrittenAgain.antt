@@ -6,10 +6,11 @@ use native.Mathlib.Omega.{arith}
 use lib.Dec.{eqb}
 use Rattle.line.specs.Checks.{distanceAt, blankCurve, curveAt}
 use Rattle.line.proofs.Entries.{entries-get}
+use Rattle.line.specs.Entries.{sideBit}
 use Rattle.sheet.specs.Bits.{Bytes, valueOf, bytesOf, bitsAt, valuesAt, packed}
 use Rattle.sheet.specs.Layout.{Edition, headWidths, distanceWidth, entryWidths, entryAt, fillWidth}
 use Rattle.sheet.specs.Reading.{headOf, countOf, distanceOf, curveOf, lineOf}
-use Rattle.sheet.specs.Writing.{sideBit, headValues, curveValues, entryValues, entriesAfter, numberTo, sheetNumber, sheetOf}
+use Rattle.sheet.specs.Writing.{headValues, curveValues, entryValues, entriesAfter, numberTo, sheetNumber, sheetOf}
 use Rattle.sheet.proofs.Bytes.{bytes-value}
 use Rattle.sheet.proofs.Fields.{upTo, all-bits, no-bits, bits-lt, read-packed}
 use Rattle.sheet.proofs.Frames.{Framed}
