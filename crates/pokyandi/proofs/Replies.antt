@@ -1,16 +1,20 @@
 -- What each call replies and leaves in the buffer, from the replies of the calls that it makes. Assumes nothing.
 use mathlib.Core.Path.{_≡_, refl, sym, _∙_, ap}
+use mathlib.Core.Bool.{Bool}
 use mathlib.Core.List.{List, [], _∷_}
 use Prim.Native.Nat.{ℕ, _≤_}
 use native.Mathlib.Omega.{arith}
 use lib.IntN.{natAbs}
 use lib.ListN.{length}
 use borrow.Author.Tests.{le-leb}
-use Rattle.refusals.specs.Outcomes.{Outcome, passed, refused, _▹_}
+use Rattle.refusals.specs.Outcomes.{Outcome, passed, refused, need, _▹_}
 use Rattle.refusals.specs.Filling.{FillReply, unfilled, countAfter, withRoom, replyFor, bufferFor}
 use Rattle.refusals.proofs.Joining.{passed-right}
 use Rattle.refusals.proofs.FillWays.{refused-reply}
 use Rattle.line.specs.declared.Line.{Line}
+use Rattle.line.specs.Checks.{lineOutcome}
+use Rattle.line.proofs.InRange.{line-in-range}
+use Rattle.line_numbers.specs.Numbers.{lineNumbers, fewOutcome, lineOf, countOutcome, numbersOutcome}
 use Rattle.sheet.specs.Layout.{firstEdition}
 use Rattle.sheet.specs.Reading.{readOutcome, readLine}
 use Rattle.sheet.specs.Writing.{writeOutcome, writeAnswer, writeBytes}
@@ -23,7 +27,7 @@ use Rattle.calculator.specs.Answer.{alignmentOutcome, roomCheck, stationsOutcom
 use Rattle.calculator.proofs.Accepted.{few}
 use Rattle.calculator.proofs.WaysOut.{row-count}
 use Rattle.station_report.specs.Report.{sheetOutcome}
-use Rattle.pokyandi.specs.Calls.{sheetStations, checkReply, rewritten, elementValues, elementNumbers, numbersOf}
+use Rattle.pokyandi.specs.Calls.{sheetStations, checkReply, rewritten, sheetNumbers, numbersSheet, elementValues, elementNumbers, numbersOf}
 
 -- ---- the calls on a sheet
 
@@ -60,6 +64,39 @@ module _ (sheet : List ℕ) (accepted : readOutcome firstEdition sheet ≡ passe
         told .0 ∙ ap (λ (l : Line). writeAnswer E l (length bytes)) same ∙ rw (accepted, checked, sheet-length E (readLine E sheet)) refl,
         told .1 ∙ ap (λ (l : Line). writeBytes E l bytes) same ∙ rw (accepted, checked, sheet-length E (readLine E sheet)) refl,
       )
+
+  -- The numbers of the sheet's line.
+  pub numbers-reply : (buffer : List ℕ) {reply : FillReply} {after : List ℕ}
+      → (reply ≡ replyFor (fewOutcome line) (lineNumbers line) (length buffer)) × (after ≡ bufferFor (fewOutcome line) (lineNumbers line) buffer)
+      → (reply ≡ replyFor (readOutcome firstEdition sheet) (sheetNumbers sheet) (length buffer))
+      × (after ≡ bufferFor (readOutcome firstEdition sheet) (sheetNumbers sheet) buffer)
+  unfolding sheetNumbers
+  numbers-reply buffer told =
+      let E = firstEdition in
+      let few = line-in-range (readLine E sheet) (accepted-line E sheet accepted) .few in
+      let checks : fewOutcome line ≡ readOutcome E sheet =
+      ap fewOutcome same ∙ ap (λ (b : Bool). need b 3 0) (le-leb (readLine E sheet .count) 64 few) ∙ sym accepted in
+      let content = ap lineNumbers same in
+      (told .0 ∙ λ j. replyFor (checks j) (content j) (length buffer), told .1 ∙ λ j. bufferFor (checks j) (content j) buffer)
+
+-- The refusal of a line's count is that of its numbers, and where there is none the writer's answer for their line is the one for them.
+pub refused-count : (numbers buffer : List ℕ) {n p : ℕ} → countOutcome numbers ≡ refused n p
+    → (unfilled n p ≡ replyFor (numbersOutcome numbers) (numbersSheet numbers) (length buffer))
+    × (buffer ≡ bufferFor (numbersOutcome numbers) (numbersSheet numbers) buffer)
+unfolding numbersOutcome
+refused-count numbers buffer e =
+    refused-reply (numbersOutcome numbers) (numbersSheet numbers) buffer (ap (λ (o : Outcome). o ▹ lineOutcome (lineOf numbers)) e)
+
+pub write-reply : (numbers bytes : List ℕ) {line : Line} {reply : FillReply} {after : List ℕ} → countOutcome numbers ≡ passed → line ≡ lineOf numbers
+    → (reply ≡ writeAnswer firstEdition line (length bytes)) × (after ≡ writeBytes firstEdition line bytes)
+    → (reply ≡ replyFor (numbersOutcome numbers) (numbersSheet numbers) (length bytes))
+    × (after ≡ bufferFor (numbersOutcome numbers) (numbersSheet numbers) bytes)
+unfolding writeAnswer writeBytes writeOutcome replyFor bufferFor withRoom numbersOutcome numbersSheet
+write-reply numbers bytes counted same told =
+    let E = firstEdition in (
+      told .0 ∙ ap (λ (l : Line). writeAnswer E l (length bytes)) same ∙ rw (counted, sheet-length E (lineOf numbers)) refl,
+      told .1 ∙ ap (λ (l : Line). writeBytes E l bytes) same ∙ rw (counted, sheet-length E (lineOf numbers)) refl,
+    )
 
 -- No sheet has more than 257 stations, so that such a row is never too small.
 pub check-reply : (sheet : List ℕ) {room : ℕ} → 257 ≤ room → replyFor (sheetOutcome sheet) (sheetStations sheet) room ≡ checkReply sheet

@@ -1,9 +1,10 @@
--- What the calls write, from the bytes of a sheet or the numbers of a curve.
+-- What the calls write, from the bytes of a sheet or the numbers of a line or a curve.
 use mathlib.Core.List.{List, [], _∷_, map}
-use Prim.Native.Nat.{ℕ}
+use Prim.Native.Nat.{ℕ, _+_, _*_}
 use lib.IntN.{ℤ, natAbs}
 use lib.ListN.{length}
 use Rattle.refusals.specs.Filling.{FillReply, countAfter}
+use Rattle.line_numbers.specs.Numbers.{lineNumbers, lineOf}
 use Rattle.sheet.specs.Layout.{firstEdition}
 use Rattle.sheet.specs.Reading.{readLine}
 use Rattle.sheet.specs.Writing.{sheetOf}
@@ -24,6 +25,14 @@ checkReply sheet = countAfter (sheetOutcome sheet) (length (sheetStations sheet)
 unfoldable pub rewritten : List ℕ → List ℕ
 rewritten sheet = sheetOf firstEdition (readLine firstEdition sheet)
 
+-- The line of a sheet, as numbers.
+unfoldable pub sheetNumbers : List ℕ → List ℕ
+sheetNumbers sheet = lineNumbers (readLine firstEdition sheet)
+
+-- The sheet of a line that is given as numbers.
+unfoldable pub numbersSheet : List ℕ → List ℕ
+numbersSheet numbers = sheetOf firstEdition (lineOf numbers)
+
 -- "The element call returns X, Y, k, p, D, TT."
 unfoldable pub elementValues : (A R L : ℕ) → List ℤ
 elementValues A R L = v .X ∷ v .Y ∷ v .k ∷ v .p ∷ v .D ∷ v .TT ∷ []
@@ -38,3 +47,7 @@ elementNumbers A R L = map natAbs (elementValues A R L)
 -- The same of elements that were answered.
 abbrev pub numbersOf : Elements → List ℕ
 numbersOf e = e .x ∷ e .y ∷ e .centre ∷ e .shift ∷ e .arc ∷ e .tangent ∷ []
+
+-- The version of the library, 0.2.0: major, minor and patch in thousands.
+abbrev pub version : ℕ
+version = (0 * 1000 + 2) * 1000 + 0

@@ -2,20 +2,24 @@
 // written at the front of the caller's buffer, or, from bit 32 on, the number of a refusal, with its place below.
 mod answer;
 mod curves;
+mod lines;
 mod sheets;
 
 ghost use mathlib.Core.Path.{_≡_};
 ghost use lib.ListN.{length};
 ghost use Rattle.refusals.specs.Outcomes.{passed};
+ghost use Rattle.line_numbers.specs.Numbers.{numbersOutcome};
 ghost use Rattle.sheet.specs.Layout.{firstEdition};
 ghost use Rattle.sheet.specs.Reading.{readOutcome};
 ghost use Rattle.elements.specs.Answer.{elementOutcome};
 ghost use Rattle.station_report.specs.Report.{sheetOutcome, sheetText};
 ghost use Rattle.refusals.specs.Filling.{replyFor, bufferFor};
 ghost use Rattle.pokyandi.specs.Answers.{answerNumber};
-ghost use Rattle.pokyandi.specs.Calls.{sheetStations, checkReply, rewritten, elementNumbers};
+ghost use Rattle.pokyandi.specs.Calls.{sheetStations, checkReply, rewritten, sheetNumbers, numbersSheet, elementNumbers, version};
 use crate::answer::answer_number;
 use crate::curves::curve_numbers;
+use crate::lines::sheet_numbers;
+use crate::lines::write_numbers;
 use crate::sheets::rewrite_sheet;
 use crate::sheets::sheet_stations;
 
@@ -47,6 +51,26 @@ pub extern "C" fn pokyandi_rewrite(sheet: &[u8], bytes: &mut [u8]) -> u64
     answer_number(rewrite_sheet(sheet, &mut *bytes))
 }
 
+// The line of a sheet as 5 + 5 × n numbers at the front of `line`: n, V, e, start, distance 0, then side, A, R, L and the distance after
+// it for each curve. Refusals 1 to 11, then 16.
+#[no_mangle]
+pub extern "C" fn pokyandi_read(sheet: &[u8], line: &mut [u32]) -> u64
+    ensures answer { λ r. ⌜ r ≡ answerNumber (replyFor (readOutcome firstEdition (now (sheet .entry))) (sheetNumbers (now (sheet .entry))) (length (now (line .entry)))) ⌝ }
+    ensures memory { λ _. ⌜ now (line .exit) ≡ bufferFor (readOutcome firstEdition (now (sheet .entry))) (sheetNumbers (now (sheet .entry))) (now (line .entry)) ⌝ }
+{
+    answer_number(sheet_numbers(sheet, &mut *line))
+}
+
+// The sheet of such a line, at the front of `bytes`. Refusal 3 where n is over 64 or there are other than 5 + 5 × n numbers, 4 to 6, 8 to
+// 11 in sheet order, 9 for a side other than 0 and 1 too, then 16.
+#[no_mangle]
+pub extern "C" fn pokyandi_write(line: &[u32], bytes: &mut [u8]) -> u64
+    ensures answer { λ r. ⌜ r ≡ answerNumber (replyFor (numbersOutcome (now (line .entry))) (numbersSheet (now (line .entry))) (length (now (bytes .entry)))) ⌝ }
+    ensures memory { λ _. ⌜ now (bytes .exit) ≡ bufferFor (numbersOutcome (now (line .entry))) (numbersSheet (now (line .entry))) (now (bytes .entry)) ⌝ }
+{
+    answer_number(write_numbers(line, &mut *bytes))
+}
+
 // The elements of one curve in µm, X, Y, k, p, D and TT: six numbers at the front of `numbers`. The deflection is in seconds of
 // arc, radius and spiral in mm. Refusals 9, 10, 11, 14, then 16, all with place 0.
 #[no_mangle]
@@ -69,4 +93,12 @@ pub extern "C" fn pokyandi_text(sheet: &[u8], text: &mut [u8]) -> u64
     ensures memory { λ _. ⌜ now (text .exit) ≡ bufferFor passed (sheetText (now (sheet .entry))) (now (text .entry)) ⌝ }
 {
     answer_number(station_report::report_sheet(sheet, &mut *text))
+}
+
+// The version of the library: major × 1,000,000 + minor × 1,000 + patch.
+#[no_mangle]
+pub extern "C" fn pokyandi_version() -> u64
+    ensures answer { λ r. ⌜ r ≡ version ⌝ }
+{
+    2000
 }

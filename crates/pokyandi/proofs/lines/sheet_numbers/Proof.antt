@@ -1,0 +1,48 @@
+-- `sheet_numbers` meets its contract. Assumes nothing.
+use mathlib.Core.Path.{sym, _∙_, ap}
+use Rattle.refusals.specs.Outcomes.{outcomeOf}
+use Rattle.refusals.proofs.FillWays.{refused-reply}
+use Rattle.pokyandi.proofs.Replies.{numbers-reply}
+use borrow.Author.Needs.{needs}
+use Rattle.pokyandi.proofs.lines.sheet_numbers.Statement.{statement}
+use Rattle.pokyandi.proofs.lines.sheet_numbers.Tie as tie
+use Rattle.sheet.proofs.read.Reads as read-reads
+use Rattle.line_numbers.proofs.put_line.Reads as put-line-reads
+
+read-requires : tie.Need-read-requires
+read-requires c κs = search needs
+
+enum-told : tie.Need-enum-told
+enum-told c = search needs
+
+put-line-requires : tie.Need-put-line-requires
+put-line-requires c κs = search needs
+
+enum-known-verdict : tie.Need-enum-known-verdict
+enum-known-verdict c = search needs
+
+same-length : tie.Need-same-length
+same-length c = search needs
+
+returns : tie.Need-returns
+returns c =
+    let read = c .before .before .before .before .before .before .read .ensures in
+    let passes = sym (read .0) ∙ ap outcomeOf (c .before .before .before .before .enum-told .given .1) in
+    numbers-reply _ passes (read .1) _ (c .before .before .put-line .ensures)
+
+returns-2 : tie.Need-returns-2
+returns-2 c =
+    let refusal = sym (c .before .before .before .read .ensures .0) ∙ ap outcomeOf (c .before .verdict .given .1) in
+    refused-reply _ _ _ refusal
+
+pub sheet-numbers-spec : {M : Type 1} → statement M
+sheet-numbers-spec =
+    tie.close
+    (tie.spec
+    read-requires
+    enum-told
+    put-line-requires
+    enum-known-verdict
+    same-length
+    returns
+    returns-2)

@@ -1,0 +1,49 @@
+-- `write_numbers` meets its contract. Assumes nothing.
+use mathlib.Core.Path.{sym, _∙_, ap}
+use Rattle.refusals.specs.Outcomes.{outcomeOf}
+use Rattle.pokyandi.proofs.Replies.{refused-count, write-reply}
+use borrow.Author.Needs.{needs}
+use Rattle.pokyandi.proofs.lines.write_numbers.Statement.{statement}
+use Rattle.pokyandi.proofs.lines.write_numbers.Tie as tie
+
+check-count-requires : tie.Need-check-count-requires
+check-count-requires c κs = search needs
+
+enum-told : tie.Need-enum-told
+enum-told c = search needs
+
+line-of-requires : tie.Need-line-of-requires
+line-of-requires c κs = search needs
+
+write-requires : tie.Need-write-requires
+write-requires c κs = search needs
+
+enum-known-verdict : tie.Need-enum-known-verdict
+enum-known-verdict c = search needs
+
+same-length : tie.Need-same-length
+same-length c = search needs
+
+returns : tie.Need-returns
+returns c =
+    let count = c .before .before .before .before .before .before .before .check-count in
+    let counted = sym (count .ensures) ∙ ap outcomeOf (c .before .before .before .before .before .enum-told .given .1) in
+    write-reply _ _ counted (c .before .before .before .before .line-of .ensures) (c .before .before .write .ensures)
+
+returns-2 : tie.Need-returns-2
+returns-2 c =
+    let refusal = sym (c .before .before .before .check-count .ensures) ∙ ap outcomeOf (c .before .verdict .given .1) in
+    refused-count _ _ refusal
+
+pub write-numbers-spec : {M : Type 1} → statement M
+write-numbers-spec =
+    tie.close
+    (tie.spec
+    check-count-requires
+    enum-told
+    line-of-requires
+    write-requires
+    enum-known-verdict
+    same-length
+    returns
+    returns-2)

@@ -1,0 +1,26 @@
+-- `pokyandi_read` meets its contract. Assumes nothing.
+use mathlib.Core.Path.{_∙_, ap}
+use Rattle.pokyandi.specs.Answers.{answerNumber}
+use borrow.Author.Needs.{needs}
+use Rattle.pokyandi.proofs.pokyandi_read.Statement.{statement}
+use Rattle.pokyandi.proofs.pokyandi_read.Tie as tie
+use Rattle.pokyandi.proofs.answer.answer_number.Reads as answer-number-reads
+use Rattle.pokyandi.proofs.lines.sheet_numbers.Reads as sheet-numbers-reads
+
+sheet-numbers-requires : tie.Need-sheet-numbers-requires
+sheet-numbers-requires c κs = search needs
+
+answer-number-requires : tie.Need-answer-number-requires
+answer-number-requires c κs = search needs
+
+same-length : tie.Need-same-length
+same-length c = search needs
+
+returns : tie.Need-returns
+returns c =
+    let told = c .before .before .before .sheet-numbers .ensures in
+    (c .answer-number .ensures ∙ ap answerNumber (told .0), told .1)
+
+pub pokyandi-read-spec : {M : Type 1} → statement M
+pokyandi-read-spec =
+    tie.close (tie.spec sheet-numbers-requires answer-number-requires same-length returns)

@@ -1,0 +1,38 @@
+// The calls on a line that is given as numbers.
+ghost use mathlib.Core.Path.{_≡_};
+ghost use lib.ListN.{length};
+ghost use Rattle.refusals.specs.Filling.{fillReplyOf, replyFor, bufferFor};
+ghost use Rattle.line_numbers.specs.Numbers.{numbersOutcome};
+ghost use Rattle.sheet.specs.Layout.{firstEdition};
+ghost use Rattle.sheet.specs.Reading.{readOutcome};
+ghost use Rattle.pokyandi.specs.Calls.{sheetNumbers, numbersSheet};
+use line_numbers::check_count;
+use line_numbers::line_of;
+use line_numbers::put_line;
+use refusals::FillAnswer;
+use refusals::Verdict;
+
+// The line of a sheet at the front of `numbers`, or the reader's refusal.
+pub(crate) fn sheet_numbers(sheet: &[u8], numbers: &mut [u32]) -> FillAnswer
+    ensures { λ a. ⌜ fillReplyOf a ≡ replyFor (readOutcome firstEdition (now (sheet .entry))) (sheetNumbers (now (sheet .entry))) (length (now (numbers .entry))) ⌝ }
+    ensures { λ _. ⌜ now (numbers .exit) ≡ bufferFor (readOutcome firstEdition (now (sheet .entry))) (sheetNumbers (now (sheet .entry))) (now (numbers .entry)) ⌝ }
+{
+    let read = sheet::read(sheet);
+    let verdict = read.verdict;
+    match verdict {
+        Verdict::Pass => put_line(read.line, &mut *numbers),
+        Verdict::Refused(refusal) => FillAnswer::Refused(refusal),
+    }
+}
+
+// The sheet of the line that the numbers spell, at the front of `bytes`, or the first refusal.
+pub(crate) fn write_numbers(numbers: &[u32], bytes: &mut [u8]) -> FillAnswer
+    ensures { λ a. ⌜ fillReplyOf a ≡ replyFor (numbersOutcome (now (numbers .entry))) (numbersSheet (now (numbers .entry))) (length (now (bytes .entry))) ⌝ }
+    ensures { λ _. ⌜ now (bytes .exit) ≡ bufferFor (numbersOutcome (now (numbers .entry))) (numbersSheet (now (numbers .entry))) (now (bytes .entry)) ⌝ }
+{
+    let verdict = check_count(numbers);
+    match verdict {
+        Verdict::Pass => sheet::write(line_of(numbers), &mut *bytes),
+        Verdict::Refused(refusal) => FillAnswer::Refused(refusal),
+    }
+}
