@@ -5,7 +5,7 @@ use native.Mathlib.Omega.{arith}
 use Rattle.line.specs.declared.Line.{Line}
 use Rattle.line.specs.Checks.{distanceAt, curveAt}
 use Rattle.line.specs.Ranges.{LineInRange}
-use Rattle.sheet.specs.Bits.{Fit}
+use Rattle.bits.specs.Bits.{Fit}
 use Rattle.sheet.specs.Layout.{Edition, firstEdition, Holds, headWidths, distanceWidth, entryWidths}
 use Rattle.sheet.specs.Writing.{sideBit, headValues, entryValues}
 

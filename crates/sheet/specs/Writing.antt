@@ -9,7 +9,7 @@ use Rattle.refusals.specs.Filling.{FillReply, countAfter, bufferAfter}
 use Rattle.line.specs.declared.Curve.{Curve}
 use Rattle.line.specs.declared.Line.{Line}
 use Rattle.line.specs.Checks.{distanceAt, curveAt, lineOutcome}
-use Rattle.sheet.specs.Bits.{packed, bytesOf}
+use Rattle.bits.specs.Bits.{packed, bytesOf}
 use Rattle.sheet.specs.Layout.{Edition, headWidths, distanceWidth, entryWidths, byteCount, fillWidth}
 
 -- "side (0 right, 1 left ..)"
