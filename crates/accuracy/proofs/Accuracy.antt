@@ -10,9 +10,9 @@ use Rattle.refusals.specs.Filling.{fillReplyOf}
 use Rattle.line.specs.declared.Line.{Line}
 use Rattle.calculator.specs.Answer.{stationsAnswer, stationsRow}
 use Rattle.calculator.proofs.Accepted.{accepted}
-use Rattle.calculator.proofs.FirstRefusal.{first-refusal}
-use Rattle.calculator.proofs.Replies.{counted, refused-stations}
-use Rattle.calculator.proofs.RowNumbers.{row-numbers}
+use Rattle.orders.proofs.FirstRefusal.{first-refusal}
+use Rattle.orders.proofs.Replies.{counted, refused-stations}
+use Rattle.orders.proofs.RowNumbers.{row-numbers}
 use Rattle.accuracy.specs.ExactElements.{documentTerms}
 use Rattle.accuracy.specs.Accuracy.{RowWithin, Accurate}
 use Rattle.accuracy.proofs.StationsWithin.{row-within}

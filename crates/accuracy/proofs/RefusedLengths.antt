@@ -5,7 +5,7 @@ use native.Mathlib.Omega.{arith}
 use lib.Dec.{lit≤}
 use Rattle.line.specs.declared.Line.{Line}
 use Rattle.line.proofs.InRange.{line-in-range}
-use Rattle.calculator.proofs.FirstRefusal.{Reason, fields, radius, spiral, arc, straight, row}
+use Rattle.orders.proofs.FirstRefusal.{Reason, fields, radius, spiral, arc, straight, row}
 use Rattle.accuracy.specs.Accuracy.{refusedStraight, refusedArc, ShortStraight, ShortArc}
 use Rattle.accuracy.proofs.NearStations.{near-arc-at, near-straight}
 use Rattle.accuracy.proofs.Lengths.{shorter}

@@ -6,7 +6,7 @@ use native.Mathlib.Omega.{arith}
 use lib.IntN.{ℤ, pos}
 use Rattle.line.specs.declared.Line.{Line}
 use Rattle.line.specs.Ranges.{LineInRange}
-use Rattle.calculator.proofs.RowNumbers.{RowNumbers}
+use Rattle.orders.proofs.RowNumbers.{RowNumbers}
 use Rattle.accuracy.specs.Fractions.{Fraction}
 use Rattle.accuracy.specs.Accuracy.{Within, RowWithin}
 use Rattle.accuracy.proofs.Nearness.{Near}

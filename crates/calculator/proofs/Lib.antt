@@ -1,4 +1,4 @@
--- Laws of the calculator.
+-- Laws that the proofs of the calculator cite, and single lines by computation.
 pub mod TableRule
 pub mod LeastSpiral
 pub mod Fronts
@@ -7,10 +7,5 @@ pub mod StraightSteps
 pub mod RowSteps
 pub mod WaysOut
 pub mod Accepted
-pub mod InOrder
-pub mod Numbers
-pub mod Unused
-pub mod FirstRefusal
+pub mod FormerST
 pub mod Examples
-pub mod Replies
-pub mod RowNumbers

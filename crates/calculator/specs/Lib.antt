@@ -2,5 +2,4 @@
 pub mod RoadTables
 pub mod Stations
 pub mod Answer
-pub mod Order
 pub mod Lengths

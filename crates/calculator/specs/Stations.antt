@@ -71,6 +71,6 @@ curveStations line (suc i) =
 unfoldable pub stationsOf : Line → List ℤ
 stationsOf line = curveStations line (line .count) ++ (endOf line ∷ [])
 
--- The stations as a row of natural numbers; those of an accepted line are not below zero (`proofs/InOrder.antt`).
+-- The stations as a row of natural numbers; those of an accepted line are not below zero (`orders/proofs/InOrder.antt`).
 unfoldable pub stationRow : Line → List ℕ
 stationRow line = map natAbs (stationsOf line)

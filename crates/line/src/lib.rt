@@ -3,7 +3,6 @@ mod checks;
 
 ghost use mathlib.Core.Path.{_≡_};
 ghost use Rattle.line.specs.Entries.{sideBit};
-
 pub use checks::check_curve;
 pub use checks::check_head;
 pub use checks::check_line;

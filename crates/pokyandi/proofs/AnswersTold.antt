@@ -18,7 +18,7 @@ use Rattle.line.proofs.Numbers.{curve-numbers}
 use Rattle.sheet.specs.Layout.{firstEdition}
 use Rattle.sheet.specs.Reading.{readOutcome, readLine}
 use Rattle.sheet.proofs.Frames.{count-below}
-use Rattle.sheet.proofs.Numbers.{read-numbers}
+use Rattle.round_trips.proofs.Numbers.{read-numbers}
 use Rattle.sheet.proofs.WaysOut.{accepted-line, sheet-length}
 use Rattle.elements.specs.WorkingRule.{arcOf}
 use Rattle.elements.specs.Answer.{arcOutcome, elementOutcome}

@@ -4,11 +4,11 @@ use mathlib.Core.List.{List}
 use Prim.Native.Nat.{ℕ}
 use lib.ListN.{length}
 use Rattle.refusals.specs.Outcomes.{Outcome, passed, refused}
-use Rattle.sheet.specs.Bits.{Bytes}
+use Rattle.refusals.specs.Filling.{withRoom, replyFor, bufferFor}
+use Rattle.bits.specs.Bits.{Bytes}
 use Rattle.sheet.specs.Layout.{firstEdition}
 use Rattle.sheet.specs.Reading.{readOutcome}
-use Rattle.sheet.proofs.RoundTrip.{read-then-write}
-use Rattle.refusals.specs.Filling.{withRoom, replyFor, bufferFor}
+use Rattle.round_trips.proofs.RoundTrip.{read-then-write}
 use Rattle.pokyandi.specs.Calls.{rewritten}
 
 -- For every sheet, refused or not, and every buffer.

@@ -11,7 +11,7 @@ use Rattle.line.specs.declared.Curve.{Curve}
 use Rattle.line.specs.declared.Line.{Line}
 use Rattle.line.specs.Checks.{startOutcome, headOutcome, distanceOutcome, blankCurve, curveOutcome, bodyOutcome, lineOutcome}
 use Rattle.line.specs.Entries.{entries, blankLine}
-use Rattle.sheet.specs.Bits.{valueOf, bytesOf, bitsAt, valuesAt, packed}
+use Rattle.bits.specs.Bits.{valueOf, bytesOf, bitsAt, valuesAt, packed}
 use Rattle.sheet.specs.Layout.{firstEdition, bitCount, byteCount}
 use Rattle.sheet.specs.Reading.{headOf, distanceOf, curveOf, lineOf, sizeOutcome, frameOutcome, readOutcome, readLine}
 use Rattle.sheet.specs.Writing.{entriesAfter, numberTo, sheetNumber, sheetOf, writeOutcome, writeAnswer, writeBytes}

@@ -1,18 +1,13 @@
 -- The fields of a line in range fit their widths. Assumes nothing.
-use mathlib.Core.Bool.{Bool, true, false}
 use Prim.Native.Nat.{ℕ, _^_, _≤_, _<_}
 use native.Mathlib.Omega.{arith}
 use Rattle.line.specs.declared.Line.{Line}
 use Rattle.line.specs.Checks.{distanceAt, curveAt}
 use Rattle.line.specs.Ranges.{LineInRange}
-use Rattle.line.specs.Entries.{sideBit}
-use Rattle.sheet.specs.Bits.{Fit}
+use Rattle.line.proofs.Sides.{side-fits}
+use Rattle.bits.specs.Bits.{Fit}
 use Rattle.sheet.specs.Layout.{Edition, firstEdition, Holds, headWidths, distanceWidth, entryWidths}
 use Rattle.sheet.specs.Writing.{headValues, entryValues}
-
-side-fits : (left : Bool) → sideBit left < 2 ^ 1
-side-fits false = omega arith
-side-fits true = omega arith
 
 module _ (line : Line) (ok : LineInRange line) where
   pub head-fits : (E : Edition) → Holds E → Fit (headWidths E) (headValues E line)
@@ -25,7 +20,7 @@ module _ (line : Line) (ok : LineInRange line) where
   pub entry-fits : (i : ℕ) → i < line .count → Fit entryWidths (entryValues line i)
   entry-fits i h =
       let c = ok .curve i h in
-      (distance-fits i (omega arith), (side-fits (curveAt line i .left), (omega (arith, c .A-most), (omega (arith, c .R-most), (omega (arith, c .L-most), tt)))))
+      (distance-fits i (omega arith), (omega (arith, side-fits (curveAt line i .left)), (omega (arith, c .A-most), (omega (arith, c .R-most), (omega (arith, c .L-most), tt)))))
 
 pub first-holds : Holds firstEdition
 first-holds = record { number = omega arith; start = omega arith }

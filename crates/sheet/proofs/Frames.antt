@@ -13,9 +13,9 @@ use Rattle.refusals.proofs.Joining.{passed-left, passed-right, need-holds, join
 use Rattle.line.specs.Checks.{headOutcome}
 use Rattle.line.proofs.InRange.{few-curves}
 use Rattle.sheet.specs.declared.reader.Head.{Head}
-use Rattle.sheet.specs.Bits.{bitsAt, valuesAt}
+use Rattle.bits.specs.Bits.{bitsAt, valuesAt}
 use Rattle.sheet.specs.Layout.{Edition, bitCount, byteCount, fillWidth}
-use Rattle.sheet.proofs.Fields.{bits-lt}
+use Rattle.bits.proofs.Fields.{bits-lt}
 use Rattle.sheet.specs.Reading.{headOf, countOf, sizeOutcome, frameOutcome}
 
 module _ (E : Edition) (s : List ℕ) where

@@ -11,7 +11,7 @@ use Rattle.line.specs.Checks.{blankCurve}
 use Rattle.line.specs.Entries.{entries, blankLine}
 use Rattle.line.proofs.Entries.{entries-set}
 use Rattle.sheet.specs.declared.reader.Head.{Head}
-use Rattle.sheet.specs.Bits.{bitsAt, valuesAt}
+use Rattle.bits.specs.Bits.{bitsAt, valuesAt}
 use Rattle.sheet.specs.Layout.{Edition, distanceWidth, curveWidths, entryAt}
 use Rattle.sheet.specs.Reading.{headOf, countOf, distanceOf, curveFrom, curveOf, lineOf}
 

@@ -9,9 +9,9 @@ use lib.ListN.{length, take, drop, take-append-drop}
 use lib.Pow.{pow-add, pow-pos, shl-shr, mod-pow-add, mod-mod-pow}
 use lib.Seq.{drop-drop, length-take-le}
 use Rattle.sheet.specs.declared.pen.Pen.{Pen}
-use Rattle.sheet.specs.Bits.{Bytes, valueOf, bytesOf}
+use Rattle.bits.specs.Bits.{Bytes, valueOf, bytesOf}
 use Rattle.sheet.specs.Pens.{written, Put}
-use Rattle.sheet.proofs.Bytes.{word-stored, bytes-value, bytes-take}
+use Rattle.bits.proofs.Bytes.{word-stored, bytes-value, bytes-take}
 
 -- What agrees from m on agrees from any later n on.
 pub further : (m n : ℕ) (a b : List ℕ) → m ≤ n → drop m a ≡ drop m b → drop n a ≡ drop n b

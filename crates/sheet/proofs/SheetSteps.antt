@@ -8,7 +8,7 @@ use lib.ListN.{length, drop}
 use Rattle.line.specs.declared.Line.{Line}
 use Rattle.line.specs.Checks.{distanceAt}
 use Rattle.sheet.specs.declared.pen.Pen.{Pen}
-use Rattle.sheet.specs.Bits.{Bytes, packed, total}
+use Rattle.bits.specs.Bits.{Bytes, packed, total}
 use Rattle.sheet.specs.Layout.{Edition, headWidths, distanceWidth, entryWidths, byteCount, fillWidth}
 use Rattle.sheet.specs.Writing.{headValues, entryValues, entriesAfter, numberTo, sheetNumber, sheetOf}
 use Rattle.sheet.specs.Pens.{Put}

@@ -13,7 +13,7 @@ use Rattle.line.specs.Checks.{lineOutcome}
 use Rattle.sheet.specs.Layout.{Edition, byteCount}
 use Rattle.sheet.specs.Reading.{lineOf, frameOutcome, readOutcome, lineAfter, readLine}
 use Rattle.sheet.specs.Writing.{sheetNumber, sheetOf}
-use Rattle.sheet.proofs.Bytes.{length-bytes}
+use Rattle.bits.proofs.Bytes.{length-bytes}
 use Rattle.sheet.proofs.Frames.{framed}
 
 -- ---- the reader

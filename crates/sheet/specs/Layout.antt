@@ -2,7 +2,7 @@
 use mathlib.Core.List.{List, [], _∷_}
 use Prim.Native.Nat.{ℕ, _+_, _-_, _*_, _/_, _^_, _<_}
 use Rattle.line.specs.Checks.{greatestStart}
-use Rattle.sheet.specs.Bits.{total}
+use Rattle.bits.specs.Bits.{total}
 
 -- What sets one edition apart from another: its number and the width of the start.
 pub record Edition : Type 0 where

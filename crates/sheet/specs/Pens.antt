@@ -4,7 +4,7 @@ use mathlib.Core.List.{List}
 use Prim.Native.Nat.{ℕ, _+_, _*_, _%_, _^_, _≤_, _<_}
 use lib.ListN.{take, drop}
 use Rattle.sheet.specs.declared.pen.Pen.{Pen}
-use Rattle.sheet.specs.Bits.{valueOf}
+use Rattle.bits.specs.Bits.{valueOf}
 
 -- The number in the bits written so far: the bytes stored, then the bits that wait.
 unfoldable pub written : List ℕ → Pen → ℕ

@@ -10,7 +10,7 @@ use Rattle.line.specs.declared.Line.{Line}
 use Rattle.line.specs.Checks.{headOutcome, bodyOutcome, blankCurve}
 use Rattle.line.specs.Entries.{entries, blankLine}
 use Rattle.sheet.specs.declared.reader.Head.{Head}
-use Rattle.sheet.specs.Bits.{bitsAt, valuesAt}
+use Rattle.bits.specs.Bits.{bitsAt, valuesAt}
 use Rattle.sheet.specs.Layout.{Edition, headWidths, distanceWidth, curveWidths, entryAt, bitCount, byteCount, fillWidth}
 
 -- The head of its fields, in order: edition, n, V, e, start.

@@ -9,7 +9,7 @@ use Rattle.line.specs.declared.Curve.{Curve}
 use Rattle.line.specs.declared.Line.{Line}
 use Rattle.line.specs.Checks.{distanceAt, curveAt, lineOutcome}
 use Rattle.line.specs.Entries.{sideBit}
-use Rattle.sheet.specs.Bits.{packed, bytesOf}
+use Rattle.bits.specs.Bits.{packed, bytesOf}
 use Rattle.sheet.specs.Layout.{Edition, headWidths, distanceWidth, entryWidths, byteCount, fillWidth}
 
 -- The head's fields: edition, n, V, e, start.

@@ -1,5 +1,5 @@
 // Document 01's packed sheet: a line as bytes, read and written.
-mod bits;
+mod fields;
 mod layout;
 mod pen;
 mod reader;

@@ -3,7 +3,7 @@ ghost use mathlib.Core.Path.{_≡_};
 ghost use mathlib.Core.List.{_++_};
 ghost use Prim.Native.Nat.{_+_, _*_, _^_, _<_, _≤_};
 ghost use lib.ListN.{length, take, drop};
-ghost use Rattle.sheet.specs.Bits.{bytesOf};
+ghost use Rattle.bits.specs.Bits.{bytesOf};
 ghost use Rattle.sheet.specs.Pens.{Put, position};
 
 // How far the bytes are written: `at` of them are stored, and the last `held` bits of `pending`, less than a word, wait.

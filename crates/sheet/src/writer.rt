@@ -6,7 +6,7 @@ ghost use lib.ListN.{length, drop};
 ghost use Rattle.refusals.specs.Outcomes.{passed};
 ghost use Rattle.refusals.specs.Filling.{fillReplyOf};
 ghost use Rattle.line.specs.Checks.{lineOutcome};
-ghost use Rattle.sheet.specs.Bits.{packed, total, Fit};
+ghost use Rattle.bits.specs.Bits.{packed, total, Fit};
 ghost use Rattle.sheet.specs.Layout.{firstEdition, headWidths, entryWidths, byteCount};
 ghost use Rattle.sheet.specs.Writing.{curveValues, entriesAfter, sheetOf, writeAnswer, writeBytes};
 ghost use Rattle.sheet.specs.Pens.{Put, position};

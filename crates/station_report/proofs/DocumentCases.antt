@@ -9,7 +9,7 @@ use Rattle.refusals.specs.Outcomes.{passed}
 use Rattle.refusals.specs.Filling.{filled, unfilled}
 use Rattle.line.specs.Checks.{startOutcome, headOutcome, distanceOutcome, curveOutcome, bodyOutcome}
 use Rattle.line.specs.Entries.{entries}
-use Rattle.sheet.specs.Bits.{valueOf, bitsAt, valuesAt}
+use Rattle.bits.specs.Bits.{valueOf, bitsAt, valuesAt}
 use Rattle.sheet.specs.Layout.{firstEdition}
 use Rattle.sheet.specs.Reading.{headOf, distanceOf, curveOf, lineOf, sizeOutcome, frameOutcome, readOutcome, readLine}
 use Rattle.sheet.proofs.Examples.{sheet9}

@@ -14,13 +14,13 @@ use Rattle.line.specs.declared.Line.{Line}
 use Rattle.sheet.specs.Layout.{firstEdition}
 use Rattle.sheet.specs.Reading.{lineOf, readOutcome, lineAfter, readLine}
 use Rattle.sheet.proofs.Frames.{count-below}
-use Rattle.sheet.proofs.Numbers.{read-numbers}
+use Rattle.round_trips.proofs.Numbers.{read-numbers}
 use Rattle.calculator.specs.Stations.{stationRow}
 use Rattle.calculator.specs.Answer.{alignmentOutcome}
 use Rattle.calculator.proofs.Accepted.{few}
-use Rattle.calculator.proofs.InOrder.{in-order}
+use Rattle.orders.proofs.InOrder.{in-order}
 use Rattle.calculator.proofs.WaysOut.{row-count}
-use Rattle.calculator.proofs.Numbers.{alignment-numbers}
+use Rattle.orders.proofs.Numbers.{alignment-numbers}
 use Rattle.report.specs.Text.{textOutcome, textAnswer}
 use Rattle.report.proofs.Short.{list-short, refusal-short}
 use Rattle.station_report.specs.Report.{answerText, sheetOutcome, sheetText}

@@ -15,7 +15,7 @@ use Rattle.calculator.specs.Stations.{stationRow}
 use Rattle.calculator.specs.Answer.{alignmentOutcome, stationCount, roomCheck, stationsOutcome, stationsAnswer, stationsRow}
 use Rattle.calculator.proofs.Accepted.{few}
 use Rattle.calculator.proofs.WaysOut.{row-count}
-use Rattle.calculator.proofs.Replies.{counted, refused-stations}
+use Rattle.orders.proofs.Replies.{counted, refused-stations}
 use Rattle.report.specs.Text.{stationList, refusalLine, textAnswer, textBytes}
 use Rattle.station_report.specs.Report.{answerText, lineText, sheetOutcome, sheetText}
 

@@ -9,7 +9,7 @@ use borrow.Author.Needs.{needs}
 use Rattle.numbers.proofs.Ranges.{at-most}
 use Rattle.calculator.specs.Stations.{spiralAt, formerST, curveStations}
 use Rattle.calculator.proofs.Accepted.{accepted, few}
-use Rattle.calculator.proofs.InOrder.{former-between}
+use Rattle.calculator.proofs.FormerST.{former-between}
 use Rattle.calculator.proofs.RowSteps.{numbersTo, next-ST, curve-stored, end-stored}
 use Rattle.calculator.proofs.row.write_row.Statement.{statement}
 use Rattle.calculator.proofs.row.write_row.Tie as tie

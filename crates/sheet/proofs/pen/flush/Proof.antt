@@ -5,9 +5,9 @@ use native.Mathlib.Omega.{arith}
 use borrow.Author.Needs.{needs}
 use lib.ListN.{length, take, drop, length-set}
 use lib.Seq.{drop-set-lt}
-use Rattle.sheet.specs.Bits.{valueOf}
+use Rattle.bits.specs.Bits.{valueOf}
 use Rattle.sheet.specs.Pens.{written}
-use Rattle.sheet.proofs.Bytes.{byte-stored}
+use Rattle.bits.proofs.Bytes.{byte-stored}
 use Rattle.sheet.proofs.Pens.{further}
 use Rattle.sheet.proofs.pen.flush.Statement.{statement}
 use Rattle.sheet.proofs.pen.flush.Tie as tie

@@ -6,7 +6,7 @@ use native.Mathlib.Omega.{arith}
 use borrow.Author.Needs.{needs}
 use lib.ListN.{take, drop, length-set}
 use Rattle.numbers.proofs.Stores.{four-stored}
-use Rattle.sheet.proofs.Bytes.{word-bytes}
+use Rattle.bits.proofs.Bytes.{word-bytes}
 use Rattle.sheet.proofs.pen.store_word.Statement.{statement}
 use Rattle.sheet.proofs.pen.store_word.Tie as tie
 

@@ -4,8 +4,8 @@ use Prim.Native.Nat.{ℕ, _+_, _/_, _%_}
 use native.Mathlib.Omega.{arith}
 use borrow.Author.Needs.{needs}
 use lib.Dec.{eqb}
-use Rattle.sheet.specs.Bits.{bitsAt, valuesAt}
-use Rattle.sheet.proofs.Words.{first-part, second-part}
+use Rattle.bits.specs.Bits.{bitsAt, valuesAt}
+use Rattle.bits.proofs.Words.{first-part, second-part}
 use Rattle.sheet.proofs.reader.curve_at.Statement.{statement}
 use Rattle.sheet.proofs.reader.curve_at.Tie as tie
 

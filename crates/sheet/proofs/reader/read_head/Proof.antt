@@ -1,6 +1,6 @@
 -- `read_head` meets its contract. Assumes nothing.
 use borrow.Author.Needs.{needs}
-use Rattle.sheet.specs.Bits.{valuesAt}
+use Rattle.bits.specs.Bits.{valuesAt}
 use Rattle.sheet.specs.Reading.{headOf}
 use Rattle.sheet.proofs.reader.read_head.Statement.{statement}
 use Rattle.sheet.proofs.reader.read_head.Tie as tie

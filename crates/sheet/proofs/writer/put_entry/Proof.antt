@@ -4,7 +4,7 @@ use mathlib.Core.List.{[], _∷_}
 use Prim.Native.Nat.{ℕ}
 use native.Mathlib.Omega.{arith}
 use borrow.Author.Needs.{needs}
-use Rattle.sheet.specs.Bits.{packed}
+use Rattle.bits.specs.Bits.{packed}
 use Rattle.sheet.specs.Layout.{entryWidths}
 use Rattle.sheet.proofs.Pens.{put-put, put-as}
 use Rattle.sheet.proofs.writer.put_entry.Statement.{statement}

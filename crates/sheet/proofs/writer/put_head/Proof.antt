@@ -1,7 +1,7 @@
 -- `put_head` meets its contract. Assumes nothing.
 use native.Mathlib.Omega.{arith}
 use borrow.Author.Needs.{needs}
-use Rattle.sheet.specs.Bits.{packed}
+use Rattle.bits.specs.Bits.{packed}
 use Rattle.sheet.proofs.Pens.{put-put}
 use Rattle.sheet.proofs.writer.put_head.Statement.{statement}
 use Rattle.sheet.proofs.writer.put_head.Tie as tie

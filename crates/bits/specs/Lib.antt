@@ -1,0 +1,2 @@
+-- Bytes as numbers, and fields in their bits.
+pub mod Bits

@@ -1,0 +1,1 @@
+// Fields in the bits of bytes, most significant first, of any width; there is no code here.

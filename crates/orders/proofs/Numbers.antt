@@ -1,0 +1,36 @@
+-- The calculator's checks before 16 refuse with 3 to 15 alone, at places up to n. Assumes nothing.
+use Prim.Native.Nat.{ℕ, suc, _≤_}
+use native.Mathlib.Omega.{arith}
+use lib.IntN.{pos}
+use lib.Signed.{leZ}
+use Rattle.refusals.specs.Outcomes.{need, _▹_, firstOf}
+use Rattle.refusals.proofs.Numbers.{Refuses, one-number, joined-numbers, numbers-in-turn, wider}
+use Rattle.line.specs.declared.Line.{Line}
+use Rattle.line.specs.Checks.{curveAt, lineOutcome}
+use Rattle.line.proofs.Numbers.{line-numbers}
+use Rattle.elements.specs.WorkingRule.{arcOf}
+use Rattle.elements.specs.Answer.{arcOutcome}
+use Rattle.calculator.specs.RoadTables.{radiusServes, spiralServes}
+use Rattle.calculator.specs.Stations.{straightAt}
+use Rattle.calculator.specs.Answer.{designOutcome, curveCheck, straightCheck, alignmentOutcome}
+
+design-numbers : (v e A R L place far : ℕ) → place ≤ far → Refuses 3 15 far (designOutcome v e A R L place)
+unfolding designOutcome arcOutcome
+design-numbers v e A R L place far h =
+    let radius = radiusServes v e R in
+    let spiral = spiralServes v R L in
+    let arc = leZ (pos 1000) (arcOf A R L) in
+    joined-numbers (need radius 12 place) (need spiral 13 place ▹ need arc 14 place) (one-number radius 12 place (omega arith) (omega arith) h)
+    (joined-numbers (need spiral 13 place) (need arc 14 place) (one-number spiral 13 place (omega arith) (omega arith) h) (one-number arc 14 place (omega arith) (omega arith) h))
+
+pub alignment-numbers : (line : Line) → Refuses 3 15 (line .count) (alignmentOutcome line)
+unfolding alignmentOutcome curveCheck straightCheck
+alignment-numbers line =
+    let n = line .count in
+    let curves = firstOf (curveCheck line) n in
+    let straights = firstOf (straightCheck line) (suc n) in
+    joined-numbers (lineOutcome line) (curves ▹ straights) (wider (lineOutcome line) (line-numbers line) (omega arith) (omega arith) (omega arith))
+    (joined-numbers curves straights
+    (numbers-in-turn (curveCheck line) n
+    (λ i h. design-numbers (line .speed) (line .crossfall) (curveAt line i .deflection) (curveAt line i .radius) (curveAt line i .spiral) (suc i) n (omega arith)))
+    (numbers-in-turn (straightCheck line) (suc n) (λ i h. one-number (leZ (pos 1000) (straightAt line i)) 15 i (omega arith) (omega arith) (omega arith))))

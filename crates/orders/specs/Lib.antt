@@ -1,0 +1,2 @@
+-- What the theorems of `orders` cite.
+pub mod Order

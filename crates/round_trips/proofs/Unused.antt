@@ -1,0 +1,44 @@
+-- The writer ignores unused entries: a line and the same with its unused entries zero have one sheet, one answer and one content of the bytes.
+-- Assumes nothing.
+use mathlib.Core.Path.{_≡_, refl, ap}
+use mathlib.Core.List.{List, [], _∷_}
+use Prim.Native.Nat.{ℕ, zero, suc, _≤_}
+use native.Mathlib.Omega.{arith}
+use lib.ListN.{length}
+use Rattle.refusals.specs.Outcomes.{Outcome}
+use Rattle.refusals.specs.Filling.{countAfter, bufferAfter}
+use Rattle.refusals.proofs.Joining.{join}
+use Rattle.line.specs.declared.Line.{Line}
+use Rattle.line.specs.Entries.{cleared}
+use Rattle.line.proofs.Unused.{unused-ignored, cleared-distance, cleared-curve, cleared-alike}
+use Rattle.bits.specs.Bits.{packed, bytesOf}
+use Rattle.sheet.specs.Layout.{Edition, headWidths, distanceWidth, entryWidths, byteCount, fillWidth}
+use Rattle.sheet.specs.Writing.{headValues, curveValues, entriesAfter, numberTo, sheetNumber, sheetOf, writeOutcome, writeAnswer, writeBytes}
+
+module _ (E : Edition) (line : Line) (few : line .count ≤ 64) where
+  same-entries : (i x : ℕ) → i ≤ line .count → entriesAfter (cleared line) i x ≡ entriesAfter line i x
+  unfolding entriesAfter
+  same-entries zero x h = refl
+  same-entries (suc i) x h =
+      λ j. packed (same-entries i x (omega arith) j) entryWidths (cleared-distance line few i (omega arith) j ∷ curveValues (cleared-curve line few i h j))
+
+  pub same-sheet : sheetOf E (cleared line) ≡ sheetOf E line
+  unfolding sheetOf sheetNumber numberTo cleared
+  same-sheet =
+      let n = line .count in
+      let head = packed 0 (headWidths E) (headValues E line) in
+      λ j.
+      bytesOf (byteCount E n)
+      (packed (same-entries n head (omega arith) j) (distanceWidth ∷ fillWidth E n ∷ []) (cleared-distance line few n (omega arith) j ∷ 0 ∷ []))
+
+  same-outcome : (room : ℕ) → writeOutcome E (cleared line) room ≡ writeOutcome E line room
+  unfolding writeOutcome cleared
+  same-outcome room = join (unused-ignored (cleared line) line (cleared-alike line few)) refl
+
+  pub same-answer : (room : ℕ) → writeAnswer E (cleared line) room ≡ writeAnswer E line room
+  unfolding writeAnswer cleared
+  same-answer room = ap (λ (o : Outcome). countAfter o (byteCount E (line .count))) (same-outcome room)
+
+  pub same-bytes : (bytes : List ℕ) → writeBytes E (cleared line) bytes ≡ writeBytes E line bytes
+  unfolding writeBytes
+  same-bytes bytes = λ j. bufferAfter (same-outcome (length bytes) j) (same-sheet j) bytes

@@ -1,0 +1,1 @@
+// What holds of the sheet's reader and writer together: each undoes the other; there is no code here.
