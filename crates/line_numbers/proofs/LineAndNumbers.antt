@@ -109,20 +109,32 @@ module _ (line : Line) where
 
 -- ---- from numbers to their line and back
 
+-- Numbers that pass the first check are those of at most 64 curves, as many as n calls for.
+module _ (numbers : List ℕ) (passes : countOutcome numbers ≡ passed) where
+  test : (leb (numberAt numbers 0) 64 && eqb (length numbers) (numberCount (numberAt numbers 0))) ≡ true
+  unfolding countOutcome
+  test = need-holds _ 3 0 passes
+
+  pub few-counted : numberAt numbers 0 ≤ 64
+  few-counted = leb-true (numberAt numbers 0) 64 (both-left _ (eqb (length numbers) (numberCount (numberAt numbers 0))) test)
+
+  pub all-counted : length numbers ≡ numberCount (numberAt numbers 0)
+  all-counted = eqb-true (length numbers) (numberCount (numberAt numbers 0)) (both-right (leb (numberAt numbers 0) 64) _ test)
+
 module _ (numbers : List ℕ) (accepted : numbersOutcome numbers ≡ passed) where
   abbrev n : ℕ
   n = numberAt numbers 0
 
-  test : (leb n 64 && eqb (length numbers) (numberCount n)) ≡ true
-  unfolding numbersOutcome countOutcome
-  test = need-holds _ 3 0 (passed-left (countOutcome numbers) _ accepted)
+  passes : countOutcome numbers ≡ passed
+  unfolding numbersOutcome
+  passes = passed-left (countOutcome numbers) _ accepted
 
   few : n ≤ 64
-  few = leb-true n 64 (both-left _ (eqb (length numbers) (numberCount n)) test)
+  few = few-counted numbers passes
 
   -- Accepted numbers are as many as n calls for: a line cut short is never taken for a whole one.
   pub counted : length numbers ≡ numberCount n
-  counted = eqb-true (length numbers) (numberCount n) (both-right (leb n 64) _ test)
+  counted = all-counted numbers passes
 
   in-range : LineInRange (lineOf numbers)
   unfolding numbersOutcome

@@ -1,20 +1,24 @@
 -- What a caller in C or Rust reads off an answer: the upper 32 bits are 0 after a count and else the refusal's number, 1 to 16; the lower
 -- ones are the count or the place. Assumes nothing.
 use mathlib.Core.Path.{_≡_, refl}
+use mathlib.Core.Bool.{_&&_}
 use mathlib.Core.List.{List}
 use Prim.Native.Nat.{ℕ, _/_, _%_, _^_, _<_, _≤_}
 use native.Mathlib.Omega.{arith}
-use lib.Dec.{leb}
+use lib.Dec.{leb, eqb}
 use lib.ListN.{length}
 use lib.IntN.{pos}
 use lib.Signed.{leZ}
 use Rattle.refusals.specs.Outcomes.{Outcome, passed, refused, need}
 use Rattle.refusals.specs.Filling.{FillReply, filled, unfilled, countAfter, withRoom, replyFor}
-use Rattle.refusals.proofs.Numbers.{Refuses, one-number, joined-numbers, wider}
+use Rattle.refusals.proofs.Numbers.{Refuses, one-number, numbers-after, joined-numbers, wider}
 use Rattle.refusals.proofs.Joining.{never, passed-left, passed-right}
-use Rattle.line.specs.Checks.{curveOutcome}
+use Rattle.line.specs.Checks.{curveOutcome, lineOutcome}
 use Rattle.line.proofs.InRange.{line-in-range}
-use Rattle.line.proofs.Numbers.{curve-numbers}
+use Rattle.line.proofs.Numbers.{curve-numbers, line-numbers}
+use Rattle.line_numbers.specs.Numbers.{numberCount, numberAt, lineOf, countOutcome, numbersOutcome}
+use Rattle.line_numbers.proofs.Storing.{line-length}
+use Rattle.line_numbers.proofs.LineAndNumbers.{few-counted}
 use Rattle.sheet.specs.Layout.{firstEdition}
 use Rattle.sheet.specs.Reading.{readOutcome, readLine}
 use Rattle.sheet.proofs.Frames.{count-below}
@@ -28,7 +32,7 @@ use Rattle.calculator.proofs.WaysOut.{row-count}
 use Rattle.station_report.specs.Report.{sheetOutcome, sheetText}
 use Rattle.station_report.proofs.Fits.{sheet-numbers, fits}
 use Rattle.pokyandi.specs.Answers.{answerNumber}
-use Rattle.pokyandi.specs.Calls.{sheetStations, checkReply, rewritten, elementValues, elementNumbers}
+use Rattle.pokyandi.specs.Calls.{sheetStations, checkReply, rewritten, sheetNumbers, numbersSheet, elementValues, elementNumbers}
 
 -- The upper and the lower half of an answer tell the reply.
 abbrev pub Told : FillReply → Type 0
@@ -89,8 +93,27 @@ module _ (sheet : List ℕ) where
       reply-told (readOutcome E sheet) (rewritten sheet) room read-few
       (λ e. omega (arith, sheet-length E line, line-in-range line (accepted-line E sheet e) .few))
 
+  pub read-told : (room : ℕ) → Told (replyFor (readOutcome firstEdition sheet) (sheetNumbers sheet) room)
+  unfolding sheetNumbers
+  read-told room =
+      let E = firstEdition in
+      let line = readLine E sheet in
+      reply-told (readOutcome E sheet) (sheetNumbers sheet) room read-few
+      (λ e. omega (arith, line-length line, line-in-range line (accepted-line E sheet e) .few))
+
   pub text-told : (room : ℕ) → Told (replyFor passed (sheetText sheet) room)
   text-told room = reply-told passed (sheetText sheet) room nothing-refused (λ e. omega (arith, fits sheet))
+
+pub write-told : (numbers : List ℕ) (room : ℕ) → Told (replyFor (numbersOutcome numbers) (numbersSheet numbers) room)
+unfolding numbersOutcome numbersSheet countOutcome lineOf
+write-told numbers room =
+    let n = numberAt numbers 0 in
+    let line = lineOf numbers in
+    reply-told (numbersOutcome numbers) (numbersSheet numbers) room
+    (numbers-after (countOutcome numbers) (lineOutcome line)
+    (one-number (leb n 64 && eqb (length numbers) (numberCount n)) 3 0 (omega arith) (omega arith) (omega arith))
+    (λ e. wider (lineOutcome line) (line-numbers line) (omega arith) (omega arith) (omega (arith, few-counted numbers e))))
+    (λ e. omega (arith, sheet-length firstEdition line, few-counted numbers (passed-left (countOutcome numbers) _ e)))
 
 pub elements-told : (A R L room : ℕ) → Told (replyFor (elementOutcome A R L) (elementNumbers A R L) room)
 unfolding elementOutcome arcOutcome elementNumbers elementValues

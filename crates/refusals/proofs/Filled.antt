@@ -1,9 +1,13 @@
 -- What the answer of a call that fills a buffer says of its checks. Assumes nothing.
-use mathlib.Core.Path.{_≡_, refl, sym}
+use mathlib.Core.Path.{_≡_, refl, sym, _∙_, ap}
+use mathlib.Core.List.{List}
 use Prim.Native.Nat.{ℕ}
 use native.Mathlib.Omega.{arith}
+use lib.ListN.{length, take}
+use lib.Seq.{take-at}
 use Rattle.refusals.specs.Outcomes.{Outcome, passed, refused}
-use Rattle.refusals.specs.Filling.{filled, unfilled, countAfter}
+use Rattle.refusals.specs.Filling.{filled, unfilled, countAfter, bufferAfter, withRoom, replyFor, bufferFor}
+use Rattle.refusals.proofs.Joining.{passed-left}
 
 -- No answer is both.
 pub never : {A : Type 0} (count n p : ℕ) → filled count ≡ unfilled n p → A
@@ -21,3 +25,13 @@ unfilled-refused (refused m k) whole {n} {p} e =
     let number : m ≡ n = cc in
     let place : k ≡ p = cc in
     λ j. refused (number j) (place j)
+
+-- After a count the content stands at the front of the buffer.
+pub found-content : (checks : Outcome) (content buffer : List ℕ) {count : ℕ} → replyFor checks content (length buffer) ≡ filled count
+    → (checks ≡ passed) × (take count (bufferFor checks content buffer) ≡ content)
+unfolding replyFor bufferFor withRoom
+found-content checks content buffer {count} e =
+    let all = filled-passed (withRoom checks content (length buffer)) (length content) e in (
+      passed-left checks _ (all .0),
+      ap (λ (o : Outcome). take count (bufferAfter o content buffer)) (all .0) ∙ take-at content _ count (sym (all .1)),
+    )

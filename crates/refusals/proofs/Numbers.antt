@@ -4,7 +4,7 @@ use mathlib.Core.Logic.{⊎-elim}
 use mathlib.Core.Bool.{Bool}
 use Prim.Native.Nat.{ℕ, zero, suc, _≤_, _<_}
 use native.Mathlib.Omega.{arith}
-use Rattle.refusals.specs.Outcomes.{Outcome, refused, need, _▹_, firstOf}
+use Rattle.refusals.specs.Outcomes.{Outcome, passed, refused, need, _▹_, firstOf}
 use Rattle.refusals.proofs.Joining.{never, refused-by, need-refused}
 
 -- A refusal has a number from `least` to `most`, and a place up to `far`.
@@ -20,12 +20,16 @@ one-number t m q l h f =
     }
 
 module _ {least most far : ℕ} where
-  pub joined-numbers : (a b : Outcome) → Refuses least most far a → Refuses least most far b → Refuses least most far (a ▹ b)
-  joined-numbers a b f g =
+  -- The second is asked only where the first passes.
+  pub numbers-after : (a b : Outcome) → Refuses least most far a → (a ≡ passed → Refuses least most far b) → Refuses least most far (a ▹ b)
+  numbers-after a b f g =
       record {
-        number = λ n p e. ⊎-elim (λ q. f .number n p q) (λ q. g .number n p (q .1)) (refused-by a b e);
-        place = λ n p e. ⊎-elim (λ q. f .place n p q) (λ q. g .place n p (q .1)) (refused-by a b e);
+        number = λ n p e. ⊎-elim (λ q. f .number n p q) (λ q. g (q .0) .number n p (q .1)) (refused-by a b e);
+        place = λ n p e. ⊎-elim (λ q. f .place n p q) (λ q. g (q .0) .place n p (q .1)) (refused-by a b e);
       }
+
+  pub joined-numbers : (a b : Outcome) → Refuses least most far a → Refuses least most far b → Refuses least most far (a ▹ b)
+  joined-numbers a b f g = numbers-after a b f (λ e. g)
 
   pub numbers-in-turn : (check : ℕ → Outcome) (count : ℕ) → ((i : ℕ) → i < count → Refuses least most far (check i))
       → Refuses least most far (firstOf check count)
