@@ -2,3 +2,4 @@
 pub mod Filling
 pub mod Storing
 pub mod LineAndNumbers
+pub mod Examples

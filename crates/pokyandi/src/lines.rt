@@ -33,6 +33,6 @@ pub(crate) fn write_numbers(numbers: &[u32], bytes: &mut [u8]) -> FillAnswer
     let verdict = check_count(numbers);
     match verdict {
         Verdict::Pass => sheet::write(line_of(numbers), &mut *bytes),
-        Verdict::Refused(refusal) => FillAnswer::Refused(refusal),
+        Verdict::Refused(miscount) => FillAnswer::Refused(miscount),
     }
 }
