@@ -28,7 +28,7 @@ extern "C" {
 /* The version of the library that is linked. */
 uint64_t pokyandi_version(void);
 
-/* Bytes of stack that are enough for every call. */
+/* Bytes of stack that are enough for every call, with what the dynamic linker takes when a call first uses memcpy. */
 #define POKYANDI_STACK_BYTES 16384
 
 enum pokyandi_reason {

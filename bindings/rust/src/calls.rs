@@ -5,7 +5,8 @@ use crate::refusal::{counted, Refusal};
 /// The version of this crate, 0.2.0: major × 1,000,000 + minor × 1,000 + patch.
 pub const VERSION: u64 = 2_000;
 
-/// Bytes of stack that are enough for every call.
+/// Bytes of stack that are enough for every call, with what the dynamic linker
+/// takes when a call first uses memcpy.
 pub const STACK_BYTES: usize = 16_384;
 
 /// Bytes of the longest sheet, one of 64 curves.
