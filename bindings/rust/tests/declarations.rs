@@ -27,7 +27,8 @@ fn rust_calls(source: &str) -> Calls {
     let blocks = source.split("extern \"C\" {").skip(1);
     let declarations = blocks.flat_map(|block| before(block, "}").split(';'));
     declarations
-        .filter_map(|declaration| declaration.trim().strip_prefix("fn "))
+        .map(|declaration| declaration.split("fn ").last().unwrap_or(declaration))
+        .filter(|declaration| !declaration.trim().is_empty())
         .map(|declaration| signature(declaration, rust_parameter))
         .collect()
 }
@@ -303,6 +304,10 @@ fn a_drift_of_the_rust_crate_is_found() {
         ("*mut u64", "*mut u32"),
         ("radius: u32", "radius: u64"),
         ("        line_numbers: usize,\n", ""),
+        (
+            "fn pokyandi_none() -> u64;",
+            "fn pokyandi_none() -> u64; #[cold] pub fn pokyandi_more() -> u64;",
+        ),
         (
             "// A comment.",
             "extern \"C\" { fn pokyandi_more() -> u64; }",
