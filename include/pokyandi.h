@@ -1,6 +1,7 @@
-/* Pokyandi: the stations of a road alignment from its packed sheet (document 01), and the elements of one curve.
+/* Pokyandi: the stations of a road alignment from its packed sheet (document 01), its line in numbers, the elements of one curve.
  *
- * Link target/staticlib/libcapi.a (made by `rt staticlib capi`). There is no state; any number of threads may call at once.
+ * Link target/staticlib/libpokyandi.a, which `rt staticlib pokyandi` makes for Linux on x86-64. There is no state; any number of
+ * threads may call at once. A call allocates nothing and takes at most POKYANDI_STACK_BYTES of stack.
  *
  * Memory is the caller's. A buffer is a pointer and the number of its entries; the pointer may be null only where that number is 0.
  * A buffer that is written to overlaps no other. A call writes its count of entries at the buffer's front and nothing behind them; after a
@@ -21,32 +22,52 @@
 extern "C" {
 #endif
 
-enum pokyandi_refusal {
-    POKYANDI_DONE = 0,
-    POKYANDI_TRUNCATED = 1,       /* too few bytes */
-    POKYANDI_EDITION = 2,         /* the edition is not one that can be read */
-    POKYANDI_CURVE_COUNT = 3,     /* over 64 curves */
-    POKYANDI_SPEED = 4,           /* not a design speed */
-    POKYANDI_CROSSFALL = 5,       /* superelevation out of range */
-    POKYANDI_START = 6,           /* start station out of range */
-    POKYANDI_TRAILING = 7,        /* too many bytes, or a fill bit is set */
-    POKYANDI_DISTANCE = 8,        /* distance out of range */
-    POKYANDI_DEFLECTION = 9,      /* deflection out of range */
-    POKYANDI_RADIUS = 10,         /* radius out of range */
-    POKYANDI_SPIRAL = 11,         /* spiral out of range, or longer than the radius */
-    POKYANDI_LEAST_RADIUS = 12,   /* radius below the least one for the design speed */
-    POKYANDI_LEAST_SPIRAL = 13,   /* spiral below the least one for the design speed */
-    POKYANDI_SHORT_ARC = 14,      /* arc under 1,000 um */
-    POKYANDI_SHORT_STRAIGHT = 15, /* straight under 1,000 um */
-    POKYANDI_SMALL_BUFFER = 16    /* the lent buffer is too small */
+/* The version of this header, 0.2.0: major x 1,000,000 + minor x 1,000 + patch. A later library may have more refusals. */
+#define POKYANDI_VERSION 2000
+
+/* The version of the library that is linked. */
+uint64_t pokyandi_version(void);
+
+/* Bytes of stack that are enough for every call, with what the dynamic linker takes when a call first uses memcpy. */
+#define POKYANDI_STACK_BYTES 16384
+
+enum pokyandi_reason {
+    POKYANDI_DONE = 0, POKYANDI_TRUNCATED = 1, POKYANDI_EDITION = 2, POKYANDI_CURVE_COUNT = 3, POKYANDI_SPEED = 4, POKYANDI_CROSSFALL = 5,
+    POKYANDI_START = 6, POKYANDI_TRAILING = 7, POKYANDI_DISTANCE = 8, POKYANDI_DEFLECTION = 9, POKYANDI_RADIUS = 10, POKYANDI_SPIRAL = 11,
+    POKYANDI_LEAST_RADIUS = 12, POKYANDI_LEAST_SPIRAL = 13, POKYANDI_SHORT_ARC = 14, POKYANDI_SHORT_STRAIGHT = 15, POKYANDI_SMALL_BUFFER = 16
 };
 
 static inline uint32_t pokyandi_refusal(uint64_t answer) { return (uint32_t)(answer >> 32); }
 static inline uint32_t pokyandi_place(uint64_t answer) { return (uint32_t)answer; }
 static inline uint32_t pokyandi_count(uint64_t answer) { return (uint32_t)answer; }
 
+/* What a refusal's number means. */
+static inline const char *pokyandi_words(uint32_t refusal) {
+    switch (refusal) {
+    case POKYANDI_DONE: return "not refused";
+    case POKYANDI_TRUNCATED: return "under 7 bytes, or fewer than n curves need";
+    case POKYANDI_EDITION: return "edition other than 1";
+    case POKYANDI_CURVE_COUNT: return "over 64 curves, or a line of other than 5 + 5 x n numbers";
+    case POKYANDI_SPEED: return "design speed other than 40, 50, .. 120 km/h";
+    case POKYANDI_CROSSFALL: return "crossfall outside 2 to 12 percent";
+    case POKYANDI_START: return "start over 200,000,000 mm";
+    case POKYANDI_TRAILING: return "more bytes than n curves need, or a fill bit set";
+    case POKYANDI_DISTANCE: return "distance outside 1 to 20,000,000 mm";
+    case POKYANDI_DEFLECTION: return "deflection outside 1 to 432,000 seconds, or side other than 0 and 1";
+    case POKYANDI_RADIUS: return "radius outside 20,000 to 5,000,000 mm";
+    case POKYANDI_SPIRAL: return "spiral over 500,000 mm, or longer than the radius";
+    case POKYANDI_LEAST_RADIUS: return "radius below the least for design speed and crossfall";
+    case POKYANDI_LEAST_SPIRAL: return "spiral below the least for design speed and radius";
+    case POKYANDI_SHORT_ARC: return "arc under 1 mm";
+    case POKYANDI_SHORT_STRAIGHT: return "straight under 1 mm";
+    case POKYANDI_SMALL_BUFFER: return "buffer too small for the answer";
+    default: return "unknown refusal";
+    }
+}
+
 /* Entries that are enough for every sheet and curve. */
 #define POKYANDI_SHEET_BYTES 706
+#define POKYANDI_LINE_NUMBERS 325
 #define POKYANDI_ROW_NUMBERS 257
 #define POKYANDI_TEXT_BYTES 5417
 #define POKYANDI_ELEMENT_NUMBERS 6
@@ -57,16 +78,36 @@ uint64_t pokyandi_stations(const uint8_t *sheet, size_t sheet_bytes, uint64_t *r
 /* The same checks, 1 to 15, without a row. Count: how many numbers the stations of the sheet are, 4 x n + 1. */
 uint64_t pokyandi_check(const uint8_t *sheet, size_t sheet_bytes);
 
-/* The sheet read and written again, which are the same bytes. Count: its bytes. Refusals: 1 to 11, then 16. */
-uint64_t pokyandi_rewrite(const uint8_t *sheet, size_t sheet_bytes, uint8_t *bytes, size_t bytes_room);
-
-/* The elements of one curve in um: X, Y, k, p, D, TT. The deflection is in seconds of arc, radius and spiral in mm. Count: 6.
- * Refusals: 9, 10, 11, 14, then 16, all with place 0. */
-uint64_t pokyandi_elements(uint32_t deflection, uint32_t radius, uint32_t spiral, uint64_t *elements, size_t elements_numbers);
-
 /* What the program `stations` prints for a sheet: the list of stations in metres, or the line of a refusal 1 to 15; no zero byte
  * behind it. Count: its bytes. Refusal: 16. */
 uint64_t pokyandi_text(const uint8_t *sheet, size_t sheet_bytes, uint8_t *text, size_t text_bytes);
+
+/* The elements of one curve in um, by the indexes below. The deflection is in seconds of arc, radius and spiral in mm. Count: 6.
+ * Refusals: 9, 10, 11, 14, then 16, all with place 0. */
+uint64_t pokyandi_elements(uint32_t deflection, uint32_t radius, uint32_t spiral, uint64_t *numbers, size_t numbers_room);
+enum { POKYANDI_X = 0, POKYANDI_Y = 1, POKYANDI_K = 2, POKYANDI_P = 3, POKYANDI_D = 4, POKYANDI_TT = 5 };
+
+/* A line in numbers has five for its head, n, V (km/h), e (percent), start (mm) and distance 0 (mm), and then five for each curve: side,
+ * A (seconds of arc), R, L and the distance behind it (mm). */
+enum { POKYANDI_LINE_CURVES = 0, POKYANDI_LINE_SPEED = 1, POKYANDI_LINE_CROSSFALL = 2, POKYANDI_LINE_START = 3 };
+enum { POKYANDI_CURVE_SIDE = 0, POKYANDI_CURVE_DEFLECTION = 1, POKYANDI_CURVE_RADIUS = 2, POKYANDI_CURVE_SPIRAL = 3 };
+enum { POKYANDI_RIGHT = 0, POKYANDI_LEFT = 1 };
+
+/* Where the numbers of curve i begin, 1 to n: its radius is line[pokyandi_curve(i) + POKYANDI_CURVE_RADIUS]. */
+static inline size_t pokyandi_curve(size_t i) { return 5 * i; }
+
+/* Where distance i stands, 0 to n. */
+static inline size_t pokyandi_distance(size_t i) { return 5 * i + 4; }
+
+/* The line of a sheet. Count: 5 + 5 x n. Refusals: 1 to 11, then 16. */
+uint64_t pokyandi_read(const uint8_t *sheet, size_t sheet_bytes, uint32_t *line, size_t line_numbers);
+
+/* The sheet of a line. Count: its bytes. Refusals: 3 to 6, 8 to 11, then 16. The line has 5 + 5 x n numbers, neither fewer nor more, else
+ * it is refused 3; a side other than 0 and 1 is refused 9 at its curve. */
+uint64_t pokyandi_write(const uint32_t *line, size_t line_numbers, uint8_t *bytes, size_t bytes_room);
+
+/* The sheet read and written again, which are the same bytes. Count: its bytes. Refusals: 1 to 11, then 16. */
+uint64_t pokyandi_rewrite(const uint8_t *sheet, size_t sheet_bytes, uint8_t *bytes, size_t bytes_room);
 
 #ifdef __cplusplus
 }

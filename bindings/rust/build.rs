@@ -1,5 +1,5 @@
-//! Finds the static library `libcapi.a`: in the folder that the variable
-//! POKYANDI_LIBRARY names, else where `rt staticlib capi` writes it.
+//! Finds the static library `libpokyandi.a`: in the folder that the variable
+//! POKYANDI_LIBRARY names, else where `rt staticlib pokyandi` writes it.
 
 use std::env;
 use std::path::PathBuf;
@@ -10,16 +10,16 @@ fn main() {
         Some(folder) => PathBuf::from(folder),
         None => PathBuf::from(env!("CARGO_MANIFEST_DIR")).join("../../target/staticlib"),
     };
-    let archive = folder.join("libcapi.a");
+    let archive = folder.join("libpokyandi.a");
     println!("cargo:rerun-if-changed={}", archive.display());
     if !archive.is_file() {
         eprintln!(
-            "{} is missing: run `rt staticlib capi` at the top of the repository,",
+            "{} is missing: run `rt staticlib pokyandi` at the top of the repository,",
             archive.display()
         );
-        eprintln!("or name the folder that holds libcapi.a in POKYANDI_LIBRARY");
+        eprintln!("or name the folder that holds libpokyandi.a in POKYANDI_LIBRARY");
         std::process::exit(1);
     }
     println!("cargo:rustc-link-search=native={}", folder.display());
-    println!("cargo:rustc-link-lib=static=capi");
+    println!("cargo:rustc-link-lib=static=pokyandi");
 }

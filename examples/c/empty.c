@@ -5,6 +5,7 @@
 
 /* Document 01's case 9: speed 70, crossfall 8, start 0, no curve, a distance of 500 m. */
 static const uint8_t SHEET[] = {0x10, 0x11, 0xA0, 0x00, 0x00, 0x00, 0x00, 0xF4, 0x24, 0x00};
+static const uint32_t LINE[] = {0, 70, 8, 0, 500000};
 
 static int wrong(const char *call, uint64_t answer, uint32_t refusal) {
     if (pokyandi_refusal(answer) == refusal && pokyandi_place(answer) == 0) {
@@ -20,8 +21,12 @@ int main(void) {
     faults += wrong("check of no bytes", pokyandi_check(NULL, 0), POKYANDI_TRUNCATED);
     faults += wrong("rewrite of no bytes", pokyandi_rewrite(NULL, 0, NULL, 0), POKYANDI_TRUNCATED);
     faults += wrong("text of no bytes", pokyandi_text(NULL, 0, NULL, 0), POKYANDI_SMALL_BUFFER);
+    faults += wrong("read of no bytes", pokyandi_read(NULL, 0, NULL, 0), POKYANDI_TRUNCATED);
+    faults += wrong("write of no numbers", pokyandi_write(NULL, 0, NULL, 0), POKYANDI_CURVE_COUNT);
     faults += wrong("stations into nothing", pokyandi_stations(SHEET, sizeof SHEET, NULL, 0), POKYANDI_SMALL_BUFFER);
     faults += wrong("rewrite into nothing", pokyandi_rewrite(SHEET, sizeof SHEET, NULL, 0), POKYANDI_SMALL_BUFFER);
     faults += wrong("elements into nothing", pokyandi_elements(177764, 350000, 40000, NULL, 0), POKYANDI_SMALL_BUFFER);
+    faults += wrong("read into nothing", pokyandi_read(SHEET, sizeof SHEET, NULL, 0), POKYANDI_SMALL_BUFFER);
+    faults += wrong("write into nothing", pokyandi_write(LINE, sizeof LINE / sizeof *LINE, NULL, 0), POKYANDI_SMALL_BUFFER);
     return faults != 0;
 }

@@ -1,4 +1,10 @@
-//! Bytes as text: two hexadecimal digits for each byte.
+//! Sheets as text, one on each line: two hexadecimal digits for each byte.
+
+/// The lines of a text. A last line without newline counts if it has any byte.
+pub fn lines(text: &[u8]) -> impl Iterator<Item = &[u8]> {
+    text.split_inclusive(|byte| *byte == b'\n')
+        .map(|line| line.strip_suffix(b"\n").unwrap_or(line))
+}
 
 /// Most bytes that are read from a line of text; the longest sheet has 706.
 pub const MOST_BYTES: usize = 720;
@@ -60,6 +66,16 @@ mod tests {
         assert_eq!(read_bytes(b""), []);
         assert_eq!(read_bytes(b"f"), []);
         assert_eq!(read_bytes(b"f f f"), [0xFF]);
+    }
+
+    #[test]
+    fn lines_of_a_text() {
+        let count = |text: &[u8]| lines(text).count();
+        assert_eq!(count(b""), 0);
+        assert_eq!(count(b"\n"), 1);
+        assert_eq!(count(b"1\n2"), 2);
+        assert_eq!(count(b"1\n2\n"), 2);
+        assert_eq!(count(b"\n\n"), 2);
     }
 
     #[test]

@@ -5,23 +5,23 @@
 //! line; its results are what the product's results are held against.
 //!
 //! The paper is in [`elements`], [`mod@line`], [`refusal`], [`road_tables`],
-//! [`sheet`] (its fields of bits in [`bits`]), [`stations`] and [`report`], its
-//! sums in fractions are in [`exact`]; the text forms are in [`text`], [`curve`],
-//! [`line_text`], [`hexadecimal`], [`call`] and [`sheet_text`]; what the stored
-//! samples are made of is in [`samples`]. How far rule and fractions lie apart is
-//! in [`accuracy`], looked for by [`search`] and printed by [`accuracy_table`].
-//! The station program is run by [`runner`].
+//! [`sheet`] (its fields of bits in [`bits`]), [`stations`], [`lent`] and [`report`], its
+//! sums in fractions are in [`exact`]; a line as numbers is in [`line_numbers`], the
+//! text forms of sheets are in [`hexadecimal`] and [`sheet_text`]; the samples are
+//! in [`samples`]. How far rule and fractions lie apart is in [`accuracy`], looked
+//! for by [`search`] and printed by [`accuracy_table`]. The station program is run
+//! by [`runner`].
 
 pub mod accuracy;
 pub mod accuracy_table;
 pub mod bits;
-pub mod call;
 pub mod curve;
 pub mod elements;
 pub mod exact;
 pub mod hexadecimal;
+pub mod lent;
 pub mod line;
-pub mod line_text;
+pub mod line_numbers;
 pub mod refusal;
 pub mod report;
 pub mod road_tables;
@@ -31,4 +31,3 @@ pub mod search;
 pub mod sheet;
 pub mod sheet_text;
 pub mod stations;
-pub mod text;

@@ -15,30 +15,9 @@ pub const GREATEST_START: u32 = 200_000_000;
 /// Greatest distance, mm.
 pub const GREATEST_DISTANCE: u32 = 20_000_000;
 
-/// The side to which a curve turns.
-#[derive(Clone, Copy, Debug, PartialEq, Eq)]
-pub enum Side {
-    Right,
-    Left,
-}
-
-impl Side {
-    /// 1 is left, anything else right.
-    pub fn of(number: u32) -> Side {
-        match number {
-            1 => Side::Left,
-            _ => Side::Right,
-        }
-    }
-
-    /// 0 right, 1 left.
-    pub fn number(self) -> u32 {
-        match self {
-            Side::Right => 0,
-            Side::Left => 1,
-        }
-    }
-}
+/// The side to which a curve turns, a field of two values only.
+pub const RIGHT: u32 = 0;
+pub const LEFT: u32 = 1;
 
 /// A line, its fields in range or not. Distances and curves beyond the n-th
 /// curve are unused entries.
@@ -55,7 +34,7 @@ pub struct Line {
     /// Distances, mm: start to PI 1, PI to PI, last PI to end.
     pub distances: [u32; MOST_CURVES + 1],
     /// Sides of the curves.
-    pub sides: [Side; MOST_CURVES],
+    pub sides: [u32; MOST_CURVES],
     /// The curves; curve 1 stands first.
     pub curves: [Curve; MOST_CURVES],
 }
@@ -69,7 +48,7 @@ impl Line {
             start: 0,
             n: 0,
             distances: [0; MOST_CURVES + 1],
-            sides: [Side::Right; MOST_CURVES],
+            sides: [RIGHT; MOST_CURVES],
             curves: [Curve::new(0, 0, 0); MOST_CURVES],
         }
     }
@@ -155,8 +134,12 @@ impl Line {
         Ok(())
     }
 
-    /// Checks 9, 10 and 11 of curve i, from 1 to n.
+    /// Checks 9, 10 and 11 of curve i, from 1 to n. A side that is none of the
+    /// two is refused like a deflection out of its range.
     fn check_curve(&self, i: usize) -> Result<(), Refusal> {
+        if ![RIGHT, LEFT].contains(&self.sides[i - 1]) {
+            return refuse(9, i);
+        }
         let Curve { a, r, l } = self.curve(i);
         elements::check_ranges(a, r, l).map_err(|refusal| refusal.at(i))
     }
@@ -172,17 +155,6 @@ mod tests {
     fn greatest(n: usize) -> Line {
         let curves = vec![Curve::new(432_000, 5_000_000, 500_000); n];
         Line::new(120, 12, 200_000_000, &vec![20_000_000; n + 1], &curves)
-    }
-
-    #[test]
-    fn only_1_is_left() {
-        assert_eq!(Side::of(1), Side::Left);
-        for number in [0, 2, 3, MOST] {
-            assert_eq!(Side::of(number), Side::Right);
-        }
-        for side in [Side::Right, Side::Left] {
-            assert_eq!(Side::of(side.number()), side);
-        }
     }
 
     #[test]
@@ -237,6 +209,27 @@ mod tests {
             line.curves[i].l = 20_000;
         }
         assert_eq!(line.check_ranges(), Ok(()));
+    }
+
+    #[test]
+    fn sides_have_two_values() {
+        let mut line = greatest(2);
+        for side in [0, 1] {
+            line.sides[1] = side;
+            assert_eq!(line.check_ranges(), Ok(()));
+        }
+        for side in [2, 3, MOST] {
+            line.sides[1] = side;
+            assert_eq!(line.check_ranges(), refuse(9, 2));
+        }
+        line.curves[1].r = 0;
+        assert_eq!(line.check_ranges(), refuse(9, 2));
+        line.distances[1] = 0;
+        assert_eq!(line.check_ranges(), refuse(8, 1));
+        line.sides[0] = 2;
+        assert_eq!(line.check_ranges(), refuse(9, 1));
+        line.start = MOST;
+        assert_eq!(line.check_ranges(), refuse(6, 0));
     }
 
     #[test]

@@ -102,7 +102,7 @@ pub fn refusal_number(report: &str) -> Option<u8> {
 #[cfg(test)]
 mod tests {
     use super::*;
-    use crate::line::{Line, Side};
+    use crate::line::{Line, LEFT};
     use crate::samples::dice::Dice;
     use crate::samples::roads::road;
     use crate::samples::sheet_fields::sheet_of;
@@ -125,7 +125,7 @@ END 0 879.659911
     #[test]
     fn side_is_not_printed() {
         let mut line = Line::case_1();
-        line.sides[0] = Side::Left;
+        line.sides[0] = LEFT;
         assert_eq!(report(&sheet_of(&line)), CASE_1);
     }
 

@@ -2,7 +2,8 @@
 
 use crate::bits::{BitReader, BitWriter};
 use crate::curve::Curve;
-use crate::line::{Line, Side};
+use crate::lent::front;
+use crate::line::Line;
 use crate::refusal::{refuse, Refusal};
 
 /// The edition of the sheets.
@@ -77,7 +78,7 @@ fn check_end(sheet: &[u8], n: usize) -> Result<(), Refusal> {
 fn read_entries(bits: &mut BitReader, line: &mut Line) {
     line.distances[0] = bits.take(DISTANCE_BITS);
     for i in 0..line.curve_count() {
-        line.sides[i] = Side::of(bits.take(SIDE_BITS));
+        line.sides[i] = bits.take(SIDE_BITS);
         line.curves[i] = Curve {
             a: bits.take(DEFLECTION_BITS),
             r: bits.take(RADIUS_BITS),
@@ -92,9 +93,7 @@ fn read_entries(bits: &mut BitReader, line: &mut Line) {
 pub fn write(line: &Line, bytes: &mut [u8]) -> Result<usize, Refusal> {
     line.check_ranges()?;
     let length = sheet_length(line.curve_count());
-    let Some(front) = bytes.get_mut(..length) else {
-        return refuse(16, 0);
-    };
+    let front = front(bytes, length)?;
     let mut bits = BitWriter::new(front);
     write_heading(&mut bits, line);
     write_entries(&mut bits, line);
@@ -116,7 +115,7 @@ fn write_entries(bits: &mut BitWriter, line: &Line) {
     bits.put(DISTANCE_BITS, line.distances[0]);
     for i in 0..line.curve_count() {
         let Curve { a, r, l } = line.curves[i];
-        bits.put(SIDE_BITS, line.sides[i].number());
+        bits.put(SIDE_BITS, line.sides[i]);
         bits.put(DEFLECTION_BITS, a);
         bits.put(RADIUS_BITS, r);
         bits.put(SPIRAL_BITS, l);
@@ -203,7 +202,7 @@ mod tests {
             distance(0).put(&mut sheet, line.distances[0]);
             for i in 1..=n {
                 let Curve { a, r, l } = line.curve(i);
-                side(i).put(&mut sheet, u32::from(line.sides[i - 1] == Side::Left));
+                side(i).put(&mut sheet, line.sides[i - 1]);
                 deflection(i).put(&mut sheet, a);
                 radius(i).put(&mut sheet, r);
                 spiral(i).put(&mut sheet, l);
@@ -468,7 +467,7 @@ mod tests {
         for _ in 0..1_000 {
             let line = random_line(&mut dice);
             let mut filled = line.clone();
-            fill_unused(&mut dice, &mut filled, 64);
+            fill_unused(&mut dice, &mut filled);
             let (answer, bytes) = call(&filled, 720);
             assert_eq!(read(&bytes[..answer.unwrap()]), Ok(line));
         }

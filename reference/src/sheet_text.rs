@@ -10,7 +10,7 @@
 //! distance 400000
 //! ```
 
-use crate::line::{Line, Side};
+use crate::line::{Line, LEFT, RIGHT};
 use crate::samples::sheet_fields::{
     deflection, distance, radius, side, spiral, Field, COUNT, CROSSFALL, EDITION, SPEED, START,
 };
@@ -38,10 +38,10 @@ pub fn show(line: &Line) -> String {
     text
 }
 
-fn side_word(side: Side) -> &'static str {
+fn side_word(side: u32) -> &'static str {
     match side {
-        Side::Right => "right",
-        Side::Left => "left",
+        LEFT => "left",
+        _ => "right",
     }
 }
 
@@ -143,7 +143,7 @@ impl<'a> Items<'a> {
         }
         let i = i as usize;
         Ok([
-            (side(i), item.side()?.number()),
+            (side(i), item.side()?),
             item.number(2, "deflection", deflection(i))?,
             item.number(3, "radius", radius(i))?,
             item.number(4, "spiral", spiral(i))?,
@@ -153,10 +153,10 @@ impl<'a> Items<'a> {
 
 impl Item<'_> {
     /// The side of a curve.
-    fn side(&self) -> Result<Side, Problem> {
+    fn side(&self) -> Result<u32, Problem> {
         match self.words[1] {
-            "right" => Ok(Side::Right),
-            "left" => Ok(Side::Left),
+            "right" => Ok(RIGHT),
+            "left" => Ok(LEFT),
             word => problem(self.line, format!("side {word} is not right or left")),
         }
     }

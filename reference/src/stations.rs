@@ -2,6 +2,7 @@
 
 use crate::curve::Curve;
 use crate::elements::{arc, check_arc, working_rule};
+use crate::lent::fill;
 use crate::line::Line;
 use crate::refusal::{refuse, Refusal};
 
@@ -16,11 +17,7 @@ pub fn stations(line: &Line, row: &mut [u64]) -> Result<usize, Refusal> {
     check_curves(line)?;
     check_straights(line)?;
     let points = points(line);
-    let Some(front) = row.get_mut(..points.len()) else {
-        return refuse(16, 0);
-    };
-    front.copy_from_slice(&points);
-    Ok(points.len())
+    fill(row, &points)
 }
 
 /// Checks 12, 13 and 14, curve by curve.
@@ -102,7 +99,7 @@ fn station(length: i128) -> u64 {
 #[cfg(test)]
 mod tests {
     use super::*;
-    use crate::line::Side;
+    use crate::line::LEFT;
 
     const MOST: u32 = u32::MAX;
     const CASE_1: [u64; 5] = [
@@ -277,7 +274,7 @@ mod tests {
     #[test]
     fn unused_entries_and_sides_change_nothing() {
         let mut line = Line::case_1();
-        line.sides.fill(Side::Left);
+        line.sides.fill(LEFT);
         line.curves[1..].fill(Curve::new(MOST, 0, MOST));
         line.distances[2..].fill(MOST);
         assert_eq!(call(&line, 5), (Ok(5), CASE_1.to_vec()));

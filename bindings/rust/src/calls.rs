@@ -2,8 +2,17 @@
 
 use crate::refusal::{counted, Refusal};
 
+/// The version of this crate, 0.2.0: major × 1,000,000 + minor × 1,000 + patch.
+pub const VERSION: u64 = 2_000;
+
+/// Bytes of stack that are enough for every call, with what the dynamic linker
+/// takes when a call first uses memcpy.
+pub const STACK_BYTES: usize = 16_384;
+
 /// Bytes of the longest sheet, one of 64 curves.
 pub const SHEET_BYTES: usize = 706;
+/// Numbers of the longest line.
+pub const LINE_NUMBERS: usize = 325;
 /// Numbers of the longest row of stations.
 pub const ROW_NUMBERS: usize = 257;
 /// Bytes that are enough for the text of every sheet.
@@ -13,6 +22,7 @@ pub const ELEMENT_NUMBERS: usize = 6;
 
 // A slice passes as its pointer and its length.
 extern "C" {
+    fn pokyandi_version() -> u64;
     fn pokyandi_stations(
         sheet: *const u8,
         sheet_bytes: usize,
@@ -20,21 +30,39 @@ extern "C" {
         row_numbers: usize,
     ) -> u64;
     fn pokyandi_check(sheet: *const u8, sheet_bytes: usize) -> u64;
+    fn pokyandi_text(sheet: *const u8, sheet_bytes: usize, text: *mut u8, text_bytes: usize)
+        -> u64;
+    fn pokyandi_elements(
+        deflection: u32,
+        radius: u32,
+        spiral: u32,
+        numbers: *mut u64,
+        numbers_room: usize,
+    ) -> u64;
+    fn pokyandi_read(
+        sheet: *const u8,
+        sheet_bytes: usize,
+        line: *mut u32,
+        line_numbers: usize,
+    ) -> u64;
+    fn pokyandi_write(
+        line: *const u32,
+        line_numbers: usize,
+        bytes: *mut u8,
+        bytes_room: usize,
+    ) -> u64;
     fn pokyandi_rewrite(
         sheet: *const u8,
         sheet_bytes: usize,
         bytes: *mut u8,
         bytes_room: usize,
     ) -> u64;
-    fn pokyandi_elements(
-        deflection: u32,
-        radius: u32,
-        spiral: u32,
-        elements: *mut u64,
-        elements_numbers: usize,
-    ) -> u64;
-    fn pokyandi_text(sheet: *const u8, sheet_bytes: usize, text: *mut u8, text_bytes: usize)
-        -> u64;
+}
+
+/// The version of the library that is linked.
+pub fn version() -> u64 {
+    // SAFETY: the call takes nothing.
+    unsafe { pokyandi_version() }
 }
 
 /// The stations of a sheet in µm: TS, SC, CS, ST of each curve in order, then
@@ -51,18 +79,16 @@ pub fn check(sheet: &[u8]) -> Result<usize, Refusal> {
     counted(unsafe { pokyandi_check(sheet.as_ptr(), sheet.len()) })
 }
 
-/// The sheet read and written again, which are the same bytes. Refusals: 1 to
-/// 11, then 16.
-pub fn rewrite(sheet: &[u8], bytes: &mut [u8]) -> Result<usize, Refusal> {
-    // SAFETY: pointers and lengths are those of slices; the bytes are borrowed alone.
-    counted(unsafe {
-        pokyandi_rewrite(sheet.as_ptr(), sheet.len(), bytes.as_mut_ptr(), bytes.len())
-    })
+/// What the program `stations` prints for a sheet: the list of stations in
+/// metres, or the line of a refusal 1 to 15. Refusal: 16.
+pub fn text(sheet: &[u8], text: &mut [u8]) -> Result<usize, Refusal> {
+    // SAFETY: pointers and lengths are those of slices; the text is borrowed alone.
+    counted(unsafe { pokyandi_text(sheet.as_ptr(), sheet.len(), text.as_mut_ptr(), text.len()) })
 }
 
-/// The elements of one curve in µm, X, Y, k, p, D, TT: six numbers. The
-/// deflection is in seconds of arc, radius and spiral in mm. Refusals: 9, 10,
-/// 11, 14, then 16, all with place 0.
+/// The elements of one curve in µm, by the indexes of [`crate::element`]: six
+/// numbers. The deflection is in seconds of arc, radius and spiral in mm.
+/// Refusals: 9, 10, 11, 14, then 16, all with place 0.
 pub fn elements(
     deflection: u32,
     radius: u32,
@@ -81,9 +107,38 @@ pub fn elements(
     })
 }
 
-/// What the program `stations` prints for a sheet: the list of stations in
-/// metres, or the line of a refusal 1 to 15. Refusal: 16.
-pub fn text(sheet: &[u8], text: &mut [u8]) -> Result<usize, Refusal> {
-    // SAFETY: pointers and lengths are those of slices; the text is borrowed alone.
-    counted(unsafe { pokyandi_text(sheet.as_ptr(), sheet.len(), text.as_mut_ptr(), text.len()) })
+/// The line of a sheet, by the indexes of [`crate::line`] and [`crate::curve`]:
+/// 5 + 5 × n numbers. Refusals: 1 to 11, then 16.
+pub fn read(sheet: &[u8], line: &mut [u32]) -> Result<usize, Refusal> {
+    // SAFETY: pointers and lengths are those of slices; the line is borrowed alone.
+    counted(unsafe { pokyandi_read(sheet.as_ptr(), sheet.len(), line.as_mut_ptr(), line.len()) })
+}
+
+/// The sheet of a line: its bytes. Refusals: 3 to 6, 8 to 11, then 16. The line
+/// has 5 + 5 × n numbers, neither fewer nor more, else it is refused 3; a side
+/// other than 0 and 1 is refused 9 at its curve.
+pub fn write(line: &[u32], bytes: &mut [u8]) -> Result<usize, Refusal> {
+    // SAFETY: pointers and lengths are those of slices; the bytes are borrowed alone.
+    counted(unsafe { pokyandi_write(line.as_ptr(), line.len(), bytes.as_mut_ptr(), bytes.len()) })
+}
+
+/// The sheet read and written again, which are the same bytes. Refusals: 1 to
+/// 11, then 16.
+pub fn rewrite(sheet: &[u8], bytes: &mut [u8]) -> Result<usize, Refusal> {
+    // SAFETY: pointers and lengths are those of slices; the bytes are borrowed alone.
+    counted(unsafe {
+        pokyandi_rewrite(sheet.as_ptr(), sheet.len(), bytes.as_mut_ptr(), bytes.len())
+    })
+}
+
+#[cfg(test)]
+mod tests {
+    use super::*;
+
+    #[test]
+    fn package_crate_and_library_have_one_version() {
+        let package = env!("CARGO_PKG_VERSION").split('.');
+        let package = package.fold(0, |sum, part| 1_000 * sum + part.parse::<u64>().unwrap());
+        assert_eq!([package, version()], [VERSION; 2]);
+    }
 }

@@ -1,5 +1,5 @@
 //! Stations of road alignments from packed sheets: safe functions over the
-//! proved static library `capi`, whose header is `include/pokyandi.h`.
+//! proved static library `libpokyandi.a`, whose header is `include/pokyandi.h`.
 //!
 //! A call writes its count of entries at the front of the buffer that it is
 //! lent, leaves those behind them as they are, and answers the count. A refusal
@@ -12,13 +12,22 @@
 //! let count = pokyandi::stations(&sheet, &mut row).unwrap();
 //! assert_eq!(row[..count], [500_000_000]);
 //!
-//! let refusal = pokyandi::stations(&sheet[..9], &mut row).unwrap_err();
-//! assert_eq!(refusal.to_string(), "refused 1 at place 0: too few bytes");
+//! let mut line = [0; pokyandi::LINE_NUMBERS];
+//! let count = pokyandi::read(&sheet, &mut line).unwrap();
+//! assert_eq!(line[..count], [0, 70, 8, 0, 500_000]);
+//!
+//! line[pokyandi::line::distance(0)] = 0;
+//! let refusal = pokyandi::write(&line[..count], &mut [0; 10]).unwrap_err();
+//! let words = "refused 8 at place 0: distance outside 1 to 20,000,000 mm";
+//! assert_eq!(refusal.to_string(), words);
 //! ```
 
 mod calls;
+mod names;
 mod refusal;
 
-pub use calls::{check, elements, rewrite, stations, text};
-pub use calls::{ELEMENT_NUMBERS, ROW_NUMBERS, SHEET_BYTES, TEXT_BYTES};
+pub use calls::{check, elements, read, rewrite, stations, text, version, write};
+pub use calls::{ELEMENT_NUMBERS, LINE_NUMBERS, ROW_NUMBERS, SHEET_BYTES, TEXT_BYTES};
+pub use calls::{STACK_BYTES, VERSION};
+pub use names::{curve, element, line};
 pub use refusal::{Reason, Refusal};

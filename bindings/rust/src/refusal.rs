@@ -13,30 +13,33 @@ pub struct Refusal {
     pub place: u32,
 }
 
-/// The reasons, by their numbers in document 01's table.
+/// The reasons of document 01's table; a later library may have more.
 #[derive(Clone, Copy, Debug, PartialEq, Eq)]
+#[non_exhaustive]
 pub enum Reason {
-    Truncated = 1,
-    Edition = 2,
-    CurveCount = 3,
-    Speed = 4,
-    Crossfall = 5,
-    Start = 6,
-    Trailing = 7,
-    Distance = 8,
-    Deflection = 9,
-    Radius = 10,
-    Spiral = 11,
-    LeastRadius = 12,
-    LeastSpiral = 13,
-    ShortArc = 14,
-    ShortStraight = 15,
-    SmallBuffer = 16,
+    Truncated,
+    Edition,
+    CurveCount,
+    Speed,
+    Crossfall,
+    Start,
+    Trailing,
+    Distance,
+    Deflection,
+    Radius,
+    Spiral,
+    LeastRadius,
+    LeastSpiral,
+    ShortArc,
+    ShortStraight,
+    SmallBuffer,
+    /// A number that this crate does not know.
+    Unknown(u32),
 }
 
 impl Reason {
-    /// All reasons, in the order of their numbers.
-    pub const ALL: [Reason; 16] = [
+    /// The known reasons, in the order of their numbers.
+    pub const ALL: &'static [Reason] = &[
         Reason::Truncated,
         Reason::Edition,
         Reason::CurveCount,
@@ -55,30 +58,60 @@ impl Reason {
         Reason::SmallBuffer,
     ];
 
-    /// The number in document 01's table, 1 to 16.
-    pub fn number(self) -> u32 {
-        self as u32
+    /// The reason with this number; 0 is none.
+    pub fn of(number: u32) -> Option<Reason> {
+        let known = || Reason::ALL.iter().find(|reason| reason.number() == number);
+        match number {
+            0 => None,
+            _ => Some(known().copied().unwrap_or(Reason::Unknown(number))),
+        }
     }
 
-    /// What is wrong, in words.
+    /// The number in document 01's table, 1 to 16, or the unknown one.
+    pub fn number(self) -> u32 {
+        match self {
+            Reason::Truncated => 1,
+            Reason::Edition => 2,
+            Reason::CurveCount => 3,
+            Reason::Speed => 4,
+            Reason::Crossfall => 5,
+            Reason::Start => 6,
+            Reason::Trailing => 7,
+            Reason::Distance => 8,
+            Reason::Deflection => 9,
+            Reason::Radius => 10,
+            Reason::Spiral => 11,
+            Reason::LeastRadius => 12,
+            Reason::LeastSpiral => 13,
+            Reason::ShortArc => 14,
+            Reason::ShortStraight => 15,
+            Reason::SmallBuffer => 16,
+            Reason::Unknown(number) => number,
+        }
+    }
+
+    /// What is wrong, in the words of `pokyandi_words` in C.
     pub fn words(self) -> &'static str {
         match self {
-            Reason::Truncated => "too few bytes",
-            Reason::Edition => "the edition is not one that can be read",
-            Reason::CurveCount => "over 64 curves",
-            Reason::Speed => "not a design speed",
-            Reason::Crossfall => "superelevation out of range",
-            Reason::Start => "start station out of range",
-            Reason::Trailing => "too many bytes, or a fill bit is set",
-            Reason::Distance => "distance out of range",
-            Reason::Deflection => "deflection out of range",
-            Reason::Radius => "radius out of range",
-            Reason::Spiral => "spiral out of range, or longer than the radius",
-            Reason::LeastRadius => "radius below the least one for the design speed",
-            Reason::LeastSpiral => "spiral below the least one for the design speed",
-            Reason::ShortArc => "arc under 1,000 µm",
-            Reason::ShortStraight => "straight under 1,000 µm",
-            Reason::SmallBuffer => "the lent buffer is too small",
+            Reason::Truncated => "under 7 bytes, or fewer than n curves need",
+            Reason::Edition => "edition other than 1",
+            Reason::CurveCount => "over 64 curves, or a line of other than 5 + 5 x n numbers",
+            Reason::Speed => "design speed other than 40, 50, .. 120 km/h",
+            Reason::Crossfall => "crossfall outside 2 to 12 percent",
+            Reason::Start => "start over 200,000,000 mm",
+            Reason::Trailing => "more bytes than n curves need, or a fill bit set",
+            Reason::Distance => "distance outside 1 to 20,000,000 mm",
+            Reason::Deflection => {
+                "deflection outside 1 to 432,000 seconds, or side other than 0 and 1"
+            }
+            Reason::Radius => "radius outside 20,000 to 5,000,000 mm",
+            Reason::Spiral => "spiral over 500,000 mm, or longer than the radius",
+            Reason::LeastRadius => "radius below the least for design speed and crossfall",
+            Reason::LeastSpiral => "spiral below the least for design speed and radius",
+            Reason::ShortArc => "arc under 1 mm",
+            Reason::ShortStraight => "straight under 1 mm",
+            Reason::SmallBuffer => "buffer too small for the answer",
+            Reason::Unknown(_) => "unknown refusal",
         }
     }
 }
@@ -98,15 +131,14 @@ impl fmt::Display for Refusal {
 impl Error for Refusal {}
 
 /// What an answer of the library says: its upper 32 bits are 0 and the lower
-/// ones a count, or they are a refusal's number, which is proved to be from 1 to
-/// 16 (`crates/capi/proofs/AnswersTold.antt`), and its place.
+/// ones a count, or they are a refusal's number and its place.
 pub(crate) fn counted(answer: u64) -> Result<usize, Refusal> {
-    let upper = (answer >> 32) as usize;
+    let upper = (answer >> 32) as u32;
     let lower = answer as u32;
-    match upper {
-        0 => Ok(lower as usize),
-        number => Err(Refusal {
-            reason: Reason::ALL[number - 1],
+    match Reason::of(upper) {
+        None => Ok(lower as usize),
+        Some(reason) => Err(Refusal {
+            reason,
             place: lower,
         }),
     }
@@ -120,6 +152,7 @@ mod tests {
     fn the_reasons_stand_in_the_order_of_their_numbers() {
         for (i, reason) in Reason::ALL.iter().enumerate() {
             assert_eq!(reason.number() as usize, i + 1);
+            assert_eq!(Reason::of(reason.number()), Some(*reason));
         }
     }
 
@@ -131,5 +164,16 @@ mod tests {
             place: 64,
         };
         assert_eq!(counted(15 << 32 | 64), Err(refusal));
+    }
+
+    #[test]
+    fn an_unknown_refusal_keeps_its_number() {
+        for number in [17, 20, u32::MAX] {
+            let refusal = counted(u64::from(number) << 32 | 5).unwrap_err();
+            assert_eq!(refusal.reason, Reason::Unknown(number));
+            let words = format!("refused {number} at place 5: unknown refusal");
+            assert_eq!(refusal.to_string(), words);
+        }
+        assert_eq!(Reason::of(0), None);
     }
 }

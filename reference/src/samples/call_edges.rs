@@ -1,9 +1,10 @@
 //! Calls at the edges of the checks that the calculator and the writer share.
 
+use super::call::{Call, Callee};
 use super::dice::Dice;
 use super::faults::put_faults;
+use super::named::{named, Claim, Named};
 use super::roads::road;
-use crate::call::{Call, Callee};
 use crate::curve::Curve;
 use crate::elements::{GREATEST_DEFLECTION, GREATEST_RADIUS, GREATEST_SPIRAL, SMALLEST_RADIUS};
 use crate::line::{Line, GREATEST_DISTANCE, GREATEST_START, MOST_CURVES};
@@ -20,7 +21,7 @@ pub type Fault = (u8, usize);
 /// The call with just the room that the line needs; for one with too many
 /// curves, as for the most.
 pub fn exact_call(callee: Callee, line: Line) -> Call {
-    let n = line.n.min(MOST_CURVES as u32);
+    let n = line.curve_count().min(MOST_CURVES);
     Call {
         room: callee.room_for(n),
         line,
@@ -40,88 +41,156 @@ pub fn longest_road() -> Line {
 }
 
 /// The edges of checks 3 to 6 and 8 to 11.
-pub fn range_edges() -> Vec<Line> {
+pub fn range_edges() -> Vec<Named<Line>> {
     [heading_edges(), distance_edges(), curve_edges()].concat()
 }
 
-/// The edges of V, e, start and n, without a curve and with one.
-fn heading_edges() -> Vec<Line> {
-    let mut lines = Vec::new();
-    for line in [Line::case_9(), Line::case_1()] {
+/// Case 9 without a curve, and case 1 with one.
+fn short_lines() -> [(&'static str, Line); 2] {
+    [("case 9", Line::case_9()), ("case 1", Line::case_1())]
+}
+
+/// The edges of V, e, start and n; each value with the number of its refusal, 0
+/// where it is in range.
+fn heading_edges() -> Vec<Named<Line>> {
+    let speeds = [
+        (0, 4),
+        (39, 4),
+        (40, 0),
+        (41, 4),
+        (45, 4),
+        (119, 4),
+        (120, 0),
+        (121, 4),
+        (130, 4),
+        (MOST, 4),
+    ];
+    let crossfalls = [(0, 5), (1, 5), (2, 0), (12, 0), (13, 5), (MOST, 5)];
+    let starts = [
+        (1, 0),
+        (GREATEST_START, 0),
+        (GREATEST_START + 1, 6),
+        (MOST, 6),
+    ];
+    let mut edges = Vec::new();
+    for (name, line) in short_lines() {
+        let mut add = |field: &str, value: u32, claim: Claim, line: Line| {
+            edges.push(named(format!("{name}, {field} {value}"), claim, line));
+        };
         let line = || line.clone();
-        let speeds = [0, 39, 40, 41, 45, 119, 120, 121, 130, MOST];
-        lines.extend(speeds.map(|v| Line { v, ..line() }));
-        let crossfalls = [0, 1, 2, 12, 13, MOST];
-        lines.extend(crossfalls.map(|e| Line { e, ..line() }));
-        let starts = [1, GREATEST_START, GREATEST_START + 1, MOST];
-        lines.extend(starts.map(|start| Line { start, ..line() }));
-        let counts = [2, 64, 65, 127, 128, 1 << 31, MOST];
-        lines.extend(counts.map(|n| Line { n, ..line() }));
+        for (v, number) in speeds {
+            add("V", v, Claim::of(number, 0), Line { v, ..line() });
+        }
+        for (e, number) in crossfalls {
+            add("e", e, Claim::of(number, 0), Line { e, ..line() });
+        }
+        for (start, number) in starts {
+            add(
+                "start",
+                start,
+                Claim::of(number, 0),
+                Line { start, ..line() },
+            );
+        }
+        // The curves that are not there are all zero.
+        let first_zero = Claim::of(9, line().curve_count() + 1);
+        for n in [2, 64] {
+            add("n", n, first_zero, Line { n, ..line() });
+        }
+        for n in [65, 127, 128, 1 << 31, MOST] {
+            add("n", n, Claim::of(3, 0), Line { n, ..line() });
+        }
     }
-    lines
+    edges
 }
 
 /// The edges of the distances.
-fn distance_edges() -> Vec<Line> {
-    let mut lines = Vec::new();
-    for line in [Line::case_9(), Line::case_1()] {
+fn distance_edges() -> Vec<Named<Line>> {
+    let distances = [
+        (0, 8),
+        (1, 0),
+        (GREATEST_DISTANCE, 0),
+        (GREATEST_DISTANCE + 1, 8),
+        (MOST, 8),
+    ];
+    let mut edges = Vec::new();
+    for (name, line) in short_lines() {
         for i in 0..=line.curve_count() {
-            for distance in [0, 1, GREATEST_DISTANCE, GREATEST_DISTANCE + 1, MOST] {
+            for (distance, number) in distances {
                 let mut line = line.clone();
                 line.distances[i] = distance;
-                lines.push(line);
+                let name = format!("{name}, distance {i} of {distance}");
+                edges.push(named(name, Claim::of(number, i), line));
             }
         }
     }
-    lines
+    edges
 }
 
 /// The edges of A, R and L.
-fn curve_edges() -> Vec<Line> {
+fn curve_edges() -> Vec<Named<Line>> {
     let middle = Curve::new(LARGE_DEFLECTION, 1_000_000, 100_000);
-    let mut curves = Vec::new();
-    let deflections = [0, 1, GREATEST_DEFLECTION, GREATEST_DEFLECTION + 1, MOST];
-    curves.extend(deflections.map(|a| Curve { a, ..middle }));
-    let radii = [
-        0,
-        SMALLEST_RADIUS - 1,
-        GREATEST_RADIUS,
-        GREATEST_RADIUS + 1,
-        MOST,
-    ];
-    curves.extend(radii.map(|r| Curve { r, ..middle }));
-    let spirals = [0, 1, GREATEST_SPIRAL, GREATEST_SPIRAL + 1, MOST];
-    curves.extend(spirals.map(|l| Curve { l, ..middle }));
+    let mut edges = Vec::new();
+    let mut add = |curve: Curve, number: u8| {
+        let line = long_line(70, 8, curve);
+        let name = format!("curve {curve} at 70 km/h");
+        edges.push(named(name, Claim::of(number, 1), line));
+    };
+    for (a, number) in [
+        (0, 9),
+        (1, 0),
+        (GREATEST_DEFLECTION, 0),
+        (GREATEST_DEFLECTION + 1, 9),
+        (MOST, 9),
+    ] {
+        add(Curve { a, ..middle }, number);
+    }
+    for (r, number) in [
+        (0, 10),
+        (SMALLEST_RADIUS - 1, 10),
+        (GREATEST_RADIUS, 0),
+        (GREATEST_RADIUS + 1, 10),
+        (MOST, 10),
+    ] {
+        add(Curve { r, ..middle }, number);
+    }
+    for (l, number) in [
+        (0, 0),
+        (1, 0),
+        (GREATEST_SPIRAL, 0),
+        (GREATEST_SPIRAL + 1, 11),
+        (MOST, 11),
+    ] {
+        add(Curve { l, ..middle }, number);
+    }
     // L at R, and 1 mm over.
     for r in [SMALLEST_RADIUS, 400_000] {
-        curves.extend([r, r + 1].map(|l| Curve { r, l, ..middle }));
+        add(Curve { r, l: r, ..middle }, 0);
+        let l = r + 1;
+        add(Curve { r, l, ..middle }, 11);
     }
-    curves
-        .into_iter()
-        .map(|curve| long_line(70, 8, curve))
-        .collect()
+    edges
 }
 
 /// Rooms that are too small, exact, and larger.
-pub fn room_edges(dice: &mut Dice, callee: Callee) -> Vec<Call> {
-    let mut calls = Vec::new();
+pub fn room_edges(dice: &mut Dice, callee: Callee) -> Vec<Named<Call>> {
+    let mut edges = Vec::new();
     for n in [0, 1, 3, MOST_CURVES] {
-        let exact = exact_call(callee, road(dice, n));
-        let few = [
-            0,
-            exact.room - 1,
-            exact.room,
-            exact.room + 1,
-            exact.room + 4,
-        ];
-        let many = [callee.most_room(), callee.most_room() + 1, MOST];
-        let rooms = few.into_iter().chain(many);
-        calls.extend(rooms.map(|room| Call {
-            room,
-            ..exact.clone()
-        }));
+        let Call { room, line } = exact_call(callee, road(dice, n));
+        for (room, claim) in [
+            (0, Claim::of(16, 0)),
+            (room - 1, Claim::of(16, 0)),
+            (room, Claim::Accepted),
+            (room + 1, Claim::Accepted),
+            (room + 4, Claim::Accepted),
+            (callee.most_room(), Claim::Accepted),
+        ] {
+            let line = line.clone();
+            let name = format!("road of {n} curves, room {room}");
+            edges.push(named(name, claim, Call { room, line }));
+        }
     }
-    calls
+    edges
 }
 
 /// Each of these refusals, 8 to 15, at the first, a middle and the last place of
@@ -130,20 +199,20 @@ pub fn faults_at_every_place(
     dice: &mut Dice,
     callee: Callee,
     numbers: impl Iterator<Item = u8>,
-) -> Vec<Call> {
-    let mut calls = Vec::new();
+) -> Vec<Named<Call>> {
+    let mut edges = Vec::new();
     for number in numbers {
         let first = usize::from(!matches!(number, 8 | 15));
         for (n, place) in [(5, first), (5, 3), (5, 5), (MOST_CURVES, MOST_CURVES)] {
-            calls.push(faulty_road(dice, callee, n, &[(number, place)]));
+            edges.push(faulty_road(dice, callee, n, &[(number, place)]));
         }
     }
-    calls
+    edges
 }
 
 /// Several faults at once for a road of four curves, the first in the order of
 /// the checks standing first.
-pub const RANGE_FAULTS: [&[Fault]; 14] = [
+const RANGE_FAULTS: [&[Fault]; 14] = [
     // Heading.
     &[(3, 0), (4, 0), (5, 0), (6, 0)],
     &[(3, 0), (4, 0)],
@@ -163,19 +232,38 @@ pub const RANGE_FAULTS: [&[Fault]; 14] = [
 ];
 
 /// Calls with these faults, so that the order of the checks shows.
-pub fn range_faults(dice: &mut Dice, callee: Callee) -> Vec<Call> {
+pub fn range_faults(dice: &mut Dice, callee: Callee) -> Vec<Named<Call>> {
     RANGE_FAULTS
         .map(|faults| faulty_road(dice, callee, 4, faults))
         .to_vec()
 }
 
 /// A road of `n` curves with these faults.
-pub fn faulty_road(dice: &mut Dice, callee: Callee, n: usize, faults: &[Fault]) -> Call {
+pub fn faulty_road(dice: &mut Dice, callee: Callee, n: usize, faults: &[Fault]) -> Named<Call> {
     let mut call = exact_call(callee, road(dice, n));
-    let faults: Vec<Refusal> = faults
+    put_faults(dice, callee, &mut call, &refusals_of(faults));
+    named(faulty_name("road", n, faults), first_of(faults), call)
+}
+
+/// The refusals that the faults are put for.
+pub fn refusals_of(faults: &[Fault]) -> Vec<Refusal> {
+    faults
         .iter()
         .map(|&(number, place)| Refusal { number, place })
+        .collect()
+}
+
+/// The claim of several faults, of which the first stands first.
+pub fn first_of(faults: &[Fault]) -> Claim {
+    let (number, place) = faults[0];
+    Claim::of(number, place)
+}
+
+/// The name of a road or sheet of `n` curves with these faults.
+pub fn faulty_name(what: &str, n: usize, faults: &[Fault]) -> String {
+    let faults: Vec<String> = faults
+        .iter()
+        .map(|(number, place)| format!("fault {number} at {place}"))
         .collect();
-    put_faults(dice, callee, &mut call, &faults);
-    call
+    format!("{what} of {n} curves, {}", faults.join(", "))
 }

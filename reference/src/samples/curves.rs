@@ -1,43 +1,51 @@
-//! The sample curves: document 01's cases, the edges of the ranges, then
-//! random curves.
+//! Sample curves: document 01's cases, the edges of the ranges, and random
+//! curves.
 
 use super::dice::Dice;
 use super::limits::{greatest_spiral, least_deflection};
+use super::named::{named, Claim, Named};
 use crate::curve::Curve;
 use crate::elements::{GREATEST_DEFLECTION, GREATEST_RADIUS, SMALLEST_RADIUS};
 
-/// The first `count` sample curves of the seed's endless list.
-pub fn sample_curves(seed: u64, count: usize) -> impl Iterator<Item = Curve> {
-    let mut dice = Dice::new(seed);
-    let random = std::iter::repeat_with(move || random_round(&mut dice)).flatten();
-    document_cases()
-        .into_iter()
-        .chain(edges())
-        .chain(random)
-        .take(count)
-}
-
-/// The cases that document 01 gives.
-fn document_cases() -> Vec<Curve> {
-    vec![
-        // Case 1, which has the numbers of source document 002's example.
-        Curve::new(177_764, 350_000, 40_000),
-        // Cases 6 and 7.
-        Curve::new(23_574, 350_000, 40_000),
-        Curve::new(23_573, 350_000, 40_000),
-        // Case 8, both radii.
-        Curve::new(1, 350_000, 0),
-        Curve::new(1, 200_000, 0),
-        // Case 11: simple curves.
-        Curve::new(177_764, 350_000, 0),
-        Curve::new(432_000, 20_000, 0),
-        Curve::new(432_000, 5_000_000, 0),
+/// The cases that document 01 gives; each with the number of its refusal, 0
+/// where there is none.
+pub fn document_cases() -> Vec<Named<Curve>> {
+    [
+        // Its numbers are those of source document 002's example.
+        ("case 1", 0, Curve::new(177_764, 350_000, 40_000)),
+        ("case 6", 0, Curve::new(23_574, 350_000, 40_000)),
+        ("case 7", 14, Curve::new(23_573, 350_000, 40_000)),
+        ("case 8", 0, Curve::new(1, 350_000, 0)),
+        ("case 8, refused", 14, Curve::new(1, 200_000, 0)),
+        (
+            "case 11, case 1's curve",
+            0,
+            Curve::new(177_764, 350_000, 0),
+        ),
+        (
+            "case 11, smallest radius",
+            0,
+            Curve::new(432_000, 20_000, 0),
+        ),
+        (
+            "case 11, greatest radius",
+            0,
+            Curve::new(432_000, 5_000_000, 0),
+        ),
     ]
+    .map(|(name, number, curve)| {
+        let claim = match number {
+            0 => Claim::Accepted,
+            _ => Claim::of(number, 0),
+        };
+        named(name, claim, curve)
+    })
+    .to_vec()
 }
 
 /// Every combination of the values at the edges of the ranges.
-fn edges() -> Vec<Curve> {
-    let mut curves = Vec::new();
+pub fn edges() -> Vec<Named<Curve>> {
+    let mut edges = Vec::new();
     for a in [0, 1, 2, 431_999, 432_000, 432_001, u32::MAX] {
         for r in [
             0,
@@ -50,38 +58,61 @@ fn edges() -> Vec<Curve> {
             u32::MAX,
         ] {
             for l in spiral_edges(r) {
-                curves.push(Curve::new(a, r, l));
+                let curve = Curve::new(a, r, l);
+                edges.push(named(format!("curve {curve}"), claim_of(curve), curve));
             }
         }
     }
-    curves
+    edges
 }
 
-/// The edges of L: its own range, then R − 1, R and R + 1 where they exist.
+/// The edges of L: its own range, then R − 1, R and R + 1 where they differ from
+/// those.
 fn spiral_edges(r: u32) -> Vec<u32> {
     let mut lengths = vec![0, 1, 499_999, 500_000, 500_001, u32::MAX];
-    lengths.extend(r.checked_sub(1));
-    lengths.push(r);
-    lengths.extend(r.checked_add(1));
+    for l in [r.checked_sub(1), Some(r), r.checked_add(1)] {
+        lengths.extend(l.filter(|l| !lengths.contains(l)));
+    }
     lengths
 }
 
-/// One round of random curves, some of each kind.
-fn random_round(dice: &mut Dice) -> Vec<Curve> {
-    let mut curves = vec![
-        uniform_curve(dice),
-        spread_radius_curve(dice),
-        small_curve(dice),
-        simple_curve(dice),
-        long_spiral(dice),
-        nearly_whole_spiral(dice),
-        out_of_range(dice),
-    ];
-    let radius = dice.between(SMALLEST_RADIUS, GREATEST_RADIUS);
-    curves.extend(least_arcs(dice, radius));
-    let radius = dice.spread(SMALLEST_RADIUS, GREATEST_RADIUS);
-    curves.extend(least_arcs(dice, radius));
-    curves
+/// The claim of a curve at the edges. In range, the large deflections leave an
+/// arc always, 1 and 2 seconds only where the radius is large and the spiral 1 mm
+/// at most.
+fn claim_of(Curve { a, r, l }: Curve) -> Claim {
+    let large_radius = r > 4_000_000;
+    if !(1..=432_000).contains(&a) {
+        Claim::of(9, 0)
+    } else if !(20_000..=5_000_000).contains(&r) {
+        Claim::of(10, 0)
+    } else if l > 500_000 || l > r {
+        Claim::of(11, 0)
+    } else if a <= 2 && (l > 1 || !large_radius) {
+        Claim::of(14, 0)
+    } else {
+        Claim::Accepted
+    }
+}
+
+/// A random curve, of any kind.
+pub fn random_curve(dice: &mut Dice) -> Curve {
+    match dice.between(0, 8) {
+        0 => uniform_curve(dice),
+        1 => spread_radius_curve(dice),
+        2 => small_curve(dice),
+        3 => simple_curve(dice),
+        4 => long_spiral(dice),
+        5 => nearly_whole_spiral(dice),
+        6 => out_of_range(dice),
+        7 => {
+            let radius = dice.between(SMALLEST_RADIUS, GREATEST_RADIUS);
+            least_arc(dice, radius)
+        }
+        _ => {
+            let radius = dice.spread(SMALLEST_RADIUS, GREATEST_RADIUS);
+            least_arc(dice, radius)
+        }
+    }
 }
 
 /// In range, all three uniform.
@@ -133,16 +164,12 @@ fn nearly_whole_spiral(dice: &mut Dice) -> Curve {
     Curve::new(a, r, l)
 }
 
-/// Three curves of radius `r` at the edge of refusal 14: the last deflection
-/// without arc, the first with one, and the next.
-fn least_arcs(dice: &mut Dice, r: u32) -> Vec<Curve> {
+/// A curve of radius `r` at the edge of refusal 14: the last deflection without
+/// arc, the first with one, or the next.
+fn least_arc(dice: &mut Dice, r: u32) -> Curve {
     let l = dice.between(0, greatest_spiral(r));
-    let a = least_deflection(r, l);
-    vec![
-        Curve::new(a - 1, r, l),
-        Curve::new(a, r, l),
-        Curve::new(a + 1, r, l),
-    ]
+    let a = least_deflection(r, l) - 1 + dice.between(0, 2);
+    Curve::new(a, r, l)
 }
 
 /// A curve in range with one field put out of range, or three numbers of any
@@ -178,37 +205,51 @@ fn out_of_range(dice: &mut Dice) -> Curve {
 mod tests {
     use super::*;
     use crate::elements::elements;
-
-    fn list(seed: u64, count: usize) -> Vec<Curve> {
-        sample_curves(seed, count).collect()
-    }
+    use std::collections::BTreeMap;
 
     #[test]
-    fn count_and_seed() {
-        assert_eq!(list(2, 0).len(), 0);
-        assert_eq!(list(2, 4_000).len(), 4_000);
-        assert_eq!(list(2, 4_000), list(2, 4_000));
-        assert_eq!(list(2, 600)[..], list(2, 4_000)[..600]);
-        assert_ne!(list(2, 4_000), list(3, 4_000));
+    fn cases_and_edges_are_answered_as_claimed() {
+        for curve in [document_cases(), edges()].concat() {
+            let Curve { a, r, l } = curve.sample;
+            let answer = elements(a, r, l);
+            assert!(curve.holds(&[9, 10, 11, 14], &answer), "{curve:?}");
+        }
     }
 
     #[test]
     fn edges_are_all_there() {
-        // Nine lengths for each of eight radii, less R − 1 of 0 and R + 1 of
-        // the largest number; seven deflections.
-        assert_eq!(edges().len(), 7 * (8 * 9 - 2));
+        // Seven deflections; for each of eight radii six lengths of L's own
+        // range and three next to R, of which 0 has none and the largest number
+        // one.
+        assert_eq!(edges().len(), 7 * (8 * 6 + 6 * 3 + 1));
+    }
+
+    #[test]
+    fn every_answer_often() {
+        let mut dice = Dice::new(1);
+        let mut times = BTreeMap::new();
+        for _ in 0..5_000 {
+            let Curve { a, r, l } = random_curve(&mut dice);
+            let number = elements(a, r, l).map_or_else(|refusal| refusal.number, |_| 0);
+            *times.entry(number).or_insert(0) += 1;
+        }
+        assert!(
+            [0, 9, 10, 11, 14].iter().all(|number| times[number] >= 50),
+            "{times:?}"
+        );
     }
 
     #[test]
     fn least_arcs_are_at_the_edge() {
         let mut dice = Dice::new(1);
-        for _ in 0..10_000 {
+        let mut accepted = 0;
+        for _ in 0..3_000 {
             let r = dice.spread(SMALLEST_RADIUS, GREATEST_RADIUS);
-            let accepted: Vec<bool> = least_arcs(&mut dice, r)
-                .iter()
-                .map(|curve| elements(curve.a, curve.r, curve.l).is_ok())
-                .collect();
-            assert_eq!(accepted, [false, true, true]);
+            let Curve { a, r, l } = least_arc(&mut dice, r);
+            let least = least_deflection(r, l);
+            assert_eq!(elements(a, r, l).is_ok(), a >= least);
+            accepted += usize::from(a >= least);
         }
+        assert!((1_500..2_500).contains(&accepted), "{accepted}");
     }
 }

@@ -1,10 +1,10 @@
 //! Faults put into a call that is accepted.
 
+use super::call::{Call, Callee};
 use super::dice::Dice;
 use super::limits::{
     greatest_spiral, least_deflection, least_distance, least_radius, least_spiral,
 };
-use crate::call::{Call, Callee};
 use crate::curve::Curve;
 use crate::elements::{GREATEST_DEFLECTION, GREATEST_RADIUS, SMALLEST_RADIUS};
 use crate::line::{Line, GREATEST_DISTANCE, GREATEST_START};
@@ -15,26 +15,6 @@ use crate::road_tables::DesignSpeed;
 /// the former ones: first those that are worked from fields in range, a curve's
 /// before its straights'.
 const PUT_ORDER: [u8; 13] = [16, 12, 13, 14, 15, 11, 10, 9, 8, 6, 5, 4, 3];
-
-/// The writer's refusals.
-const OF_THE_WRITER: [u8; 9] = [16, 11, 10, 9, 8, 6, 5, 4, 3];
-
-/// A fault that a call with the line could have: any refusal of the callee, at
-/// any of its places.
-pub fn any_fault(dice: &mut Dice, callee: Callee, line: &Line) -> Refusal {
-    let n = line.curve_count();
-    let number = match (n, callee) {
-        (0, _) => dice.one_of(&[3, 4, 5, 6, 8, 16]),
-        (_, Callee::Calculator) => dice.one_of(&PUT_ORDER),
-        (_, Callee::Writer) => dice.one_of(&OF_THE_WRITER),
-    };
-    let place = match number {
-        8 | 15 => dice.index(0, n),
-        9..=14 => dice.index(1, n),
-        _ => 0,
-    };
-    Refusal { number, place }
-}
 
 /// Puts a fault for each of these refusals into a call that the callee accepts.
 pub fn put_faults(dice: &mut Dice, callee: Callee, call: &mut Call, faults: &[Refusal]) {
@@ -55,7 +35,10 @@ fn put_fault(dice: &mut Dice, callee: Callee, call: &mut Call, fault: Refusal) {
         6 => line.start = dice.one_of(&[GREATEST_START + 1, u32::MAX]),
         8 => line.distances[i] = dice.one_of(&[0, GREATEST_DISTANCE + 1, u32::MAX]),
         15 => line.distances[i] = number_below(dice, 1, least_distance(line, i)),
-        16 => call.room = number_below(dice, 0, callee.room_for(line.n)),
+        16 => {
+            let room = callee.room_for(line.curve_count());
+            call.room = number_below(dice, 0, room as u32) as usize;
+        }
         number => line.curves[i - 1] = faulty_curve(dice, line, i, number),
     }
 }
@@ -134,16 +117,30 @@ mod tests {
         Refusal { number, place }
     }
 
+    /// Every refusal of the callee at every place that a road of `n` curves has
+    /// for it. A road without curve has no straight that is too short.
+    fn every_fault(callee: Callee, n: usize) -> Vec<Refusal> {
+        let places = |number: u8| match number {
+            15 if n == 0 => 0..0,
+            8 | 15 => 0..n + 1,
+            9..=14 => 1..n + 1,
+            _ => 0..1,
+        };
+        let numbers = callee.refusals().iter();
+        numbers
+            .flat_map(|number| places(*number).map(|place| fault(*number, place)))
+            .collect()
+    }
+
     #[test]
     fn one_fault_is_the_refusal() {
         let mut dice = Dice::new(1);
         for callee in CALLEES {
             for n in (0..=10).chain([64]) {
-                for _ in 0..100 {
+                for fault in every_fault(callee, n) {
                     let line = road(&mut dice, n);
-                    let fault = any_fault(&mut dice, callee, &line);
                     let call = faulty(&mut dice, callee, line, &[fault]);
-                    assert_eq!(call.answer(callee), Err(fault), "{call}");
+                    assert_eq!(call.answer(callee), Err(fault), "{call:?}");
                 }
             }
         }
@@ -157,7 +154,7 @@ mod tests {
                 .into_iter()
                 .filter(|number| (8..16).contains(number))
             {
-                if callee == Callee::Writer && !OF_THE_WRITER.contains(&number) {
+                if !callee.refusals().contains(&number) {
                     continue;
                 }
                 for _ in 0..100 {
@@ -165,7 +162,7 @@ mod tests {
                     let [first, second] = [fault(number, 1), fault(number, 2)];
                     let faults = [second, first, fault(16, 0)];
                     let call = faulty(&mut dice, callee, line, &faults);
-                    assert_eq!(call.answer(callee), Err(first), "{call}");
+                    assert_eq!(call.answer(callee), Err(first), "{call:?}");
                 }
             }
         }

@@ -1,20 +1,21 @@
 //! Lines at the edges of the calculator's checks.
 
+use super::call::{Call, Callee::Calculator};
 use super::call_edges::{
     exact_call, faults_at_every_place, faulty_road, long_line, longest_road, range_edges,
     range_faults, room_edges, Fault, LARGE_DEFLECTION,
 };
 use super::dice::Dice;
 use super::limits::{least_radius, least_radius_of_spiral, least_spiral};
+use super::named::{named, Claim, Named};
 use super::roads::{road_with_straight, shortest_road};
-use crate::call::{Call, Callee::Calculator};
 use crate::curve::Curve;
 use crate::elements::{GREATEST_RADIUS, GREATEST_SPIRAL};
 use crate::line::Line;
 use crate::road_tables::{DesignSpeed, SPEEDS};
 
 /// Both sides of every check, at several places; then several faults at once.
-pub fn edges(dice: &mut Dice) -> Vec<Call> {
+pub fn edges(dice: &mut Dice) -> Vec<Named<Call>> {
     let lines = [
         range_edges(),
         radius_edges(),
@@ -22,12 +23,15 @@ pub fn edges(dice: &mut Dice) -> Vec<Call> {
         whole_spiral_edges(),
         arc_edges(),
         straight_edges(dice),
-        vec![shortest_road(), longest_road()],
+        vec![
+            named("shortest road", Claim::Accepted, shortest_road()),
+            named("longest road", Claim::Accepted, longest_road()),
+        ],
     ];
-    let mut calls: Vec<Call> = lines
+    let mut calls: Vec<Named<Call>> = lines
         .into_iter()
         .flatten()
-        .map(|line| exact_call(Calculator, line))
+        .map(|edge| edge.map(|line| exact_call(Calculator, line)))
         .collect();
     calls.extend(room_edges(dice, Calculator));
     calls.extend(faults_at_every_place(dice, Calculator, 8..=15));
@@ -35,21 +39,33 @@ pub fn edges(dice: &mut Dice) -> Vec<Call> {
     calls
 }
 
+/// A line of one curve; `number` is that of its refusal, 0 where it is accepted.
+fn curve_edge(name: String, v: u32, e: u32, curve: Curve, number: u8) -> Named<Line> {
+    let claim = match number {
+        0 => Claim::Accepted,
+        _ => Claim::of(number, 1),
+    };
+    named(name, claim, long_line(v, e, curve))
+}
+
 /// The least radius of every speed, and 1 mm less.
-fn radius_edges() -> Vec<Line> {
-    let mut lines = Vec::new();
+fn radius_edges() -> Vec<Named<Line>> {
+    let mut edges = Vec::new();
     for speed in SPEEDS {
         for e in [2, 7, 12] {
             let least = least_radius(speed, e);
-            let curves = [least, least - 1].map(|r| Curve::new(LARGE_DEFLECTION, r, 0));
-            lines.extend(curves.map(|curve| long_line(speed.v, e, curve)));
+            for (r, number) in [(least, 0), (least - 1, 12)] {
+                let name = format!("radius {r} at {} km/h, e {e}", speed.v);
+                let curve = Curve::new(LARGE_DEFLECTION, r, 0);
+                edges.push(curve_edge(name, speed.v, e, curve, number));
+            }
         }
     }
-    lines
+    edges
 }
 
 /// The least spiral of a speed by table and by rule, and 1 mm less.
-fn spiral_edges(speed: DesignSpeed) -> Vec<Line> {
+fn spiral_edges(speed: DesignSpeed) -> Vec<Named<Line>> {
     let e = 8;
     let by_table = 1_000 * speed.least_spiral;
     // At this radius the table and the rule meet.
@@ -57,49 +73,61 @@ fn spiral_edges(speed: DesignSpeed) -> Vec<Line> {
     let least = least_radius(speed, e);
     let by_rule = least_spiral(speed, least);
     [
-        (meeting, by_table),
-        (meeting, by_table - 1),
-        (meeting - 1, by_table),
-        (GREATEST_RADIUS, by_table),
-        (GREATEST_RADIUS, by_table - 1),
-        (least, by_rule),
-        (least, by_rule - 1),
+        (meeting, by_table, 0),
+        (meeting, by_table - 1, 13),
+        (meeting - 1, by_table, 13),
+        (GREATEST_RADIUS, by_table, 0),
+        (GREATEST_RADIUS, by_table - 1, 13),
+        (least, by_rule, 0),
+        (least, by_rule - 1, 13),
     ]
-    .map(|(r, l)| long_line(speed.v, e, Curve::new(LARGE_DEFLECTION, r, l)))
+    .map(|(r, l, number)| {
+        let name = format!("spiral {l} of radius {r} at {} km/h", speed.v);
+        let curve = Curve::new(LARGE_DEFLECTION, r, l);
+        curve_edge(name, speed.v, e, curve, number)
+    })
     .to_vec()
 }
 
 /// The smallest radius that allows any spiral at 40 km/h, L being R, and 1 mm
 /// less: 48,000² is 36,000 × 40³.
-fn whole_spiral_edges() -> Vec<Line> {
-    [48_000, 47_999]
-        .map(|r| long_line(40, 12, Curve::new(LARGE_DEFLECTION, r, r)))
+fn whole_spiral_edges() -> Vec<Named<Line>> {
+    [(48_000, 0), (47_999, 13)]
+        .map(|(r, number)| {
+            let name = format!("spiral of {r}, its radius");
+            curve_edge(name, 40, 12, Curve::new(LARGE_DEFLECTION, r, r), number)
+        })
         .to_vec()
 }
 
 /// Arcs of 1,000 and 999 µm, and the longest and the most negative ones of one
 /// second.
-fn arc_edges() -> Vec<Line> {
+fn arc_edges() -> Vec<Named<Line>> {
     [
-        Curve::new(1, 206_271, 0),
-        Curve::new(1, 206_270, 0),
-        Curve::new(1, GREATEST_RADIUS, 0),
-        Curve::new(1, GREATEST_RADIUS, GREATEST_SPIRAL),
+        (Curve::new(1, 206_271, 0), 0),
+        (Curve::new(1, 206_270, 0), 14),
+        (Curve::new(1, GREATEST_RADIUS, 0), 0),
+        (Curve::new(1, GREATEST_RADIUS, GREATEST_SPIRAL), 14),
     ]
-    .map(|curve| long_line(70, 8, curve))
+    .map(|(curve, number)| curve_edge(format!("arc of curve {curve}"), 70, 8, curve, number))
     .to_vec()
 }
 
 /// Straights near 0 and near 1,000 µm, at the first, a middle and the last
 /// place.
-fn straight_edges(dice: &mut Dice) -> Vec<Line> {
-    let mut lines = Vec::new();
+fn straight_edges(dice: &mut Dice) -> Vec<Named<Line>> {
+    let mut edges = Vec::new();
     for i in [0, 2, 3] {
         for straight in [-1, 0, 1, 998, 999, 1_000, 1_001, 1_002] {
-            lines.push(road_with_straight(dice, 3, i, straight));
+            let line = road_with_straight(dice, 3, i, straight);
+            let claim = match straight {
+                1_000.. => Claim::Accepted,
+                _ => Claim::of(15, i),
+            };
+            edges.push(named(format!("straight {i} of {straight} µm"), claim, line));
         }
     }
-    lines
+    edges
 }
 
 /// Several faults at once for a road of four curves, the first in the order of
@@ -133,7 +161,7 @@ const FAULTS_OF_64: [&[Fault]; 3] = [
 ];
 
 /// Several faults at once, so that the order of the checks shows.
-fn several_faults(dice: &mut Dice) -> Vec<Call> {
+fn several_faults(dice: &mut Dice) -> Vec<Named<Call>> {
     let mut calls = range_faults(dice, Calculator);
     calls.extend(FAULTS_OF_FOUR.map(|faults| faulty_road(dice, Calculator, 4, faults)));
     calls.extend(FAULTS_OF_64.map(|faults| faulty_road(dice, Calculator, 64, faults)));
@@ -142,44 +170,13 @@ fn several_faults(dice: &mut Dice) -> Vec<Call> {
 
 #[cfg(test)]
 mod tests {
-    use super::super::call_edges::RANGE_FAULTS;
     use super::*;
-    use crate::refusal::refuse;
-
-    /// Whether each line is accepted.
-    fn accepted(lines: Vec<Line>) -> Vec<bool> {
-        lines
-            .into_iter()
-            .map(|line| exact_call(Calculator, line).answer(Calculator).is_ok())
-            .collect()
-    }
 
     #[test]
-    fn limits_have_both_sides() {
-        assert_eq!(accepted(radius_edges()), [true, false].repeat(9 * 3));
-        for speed in SPEEDS {
-            assert_eq!(
-                accepted(spiral_edges(speed)),
-                [true, false, false, true, false, true, false]
-            );
-        }
-        assert_eq!(accepted(whole_spiral_edges()), [true, false]);
-        assert_eq!(accepted(arc_edges()), [true, false, true, false]);
-        let straights = accepted(straight_edges(&mut Dice::new(1)));
-        let five_short = [false, false, false, false, false, true, true, true];
-        assert_eq!(straights, five_short.repeat(3));
-    }
-
-    #[test]
-    fn first_of_several_faults_is_the_refusal() {
-        let lists = RANGE_FAULTS
-            .into_iter()
-            .chain(FAULTS_OF_FOUR)
-            .chain(FAULTS_OF_64);
-        let calls = several_faults(&mut Dice::new(1));
-        for (faults, call) in lists.zip(calls) {
-            let (number, place) = faults[0];
-            assert_eq!(call.answer(Calculator), refuse(number, place), "{call}");
+    fn edges_are_answered_as_claimed() {
+        for edge in edges(&mut Dice::new(1)) {
+            let answer = edge.sample.answer(Calculator);
+            assert!(edge.holds(Calculator.refusals(), &answer), "{edge:?}");
         }
     }
 }

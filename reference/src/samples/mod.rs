@@ -1,24 +1,26 @@
-//! The samples of the stored tables. The same seed gives the same list on every
-//! machine. The search for large differences uses their dice, limits and roads.
+//! Samples: those with a name, at the edges of every check, and random ones. The
+//! same seed gives the same list on every machine. The search for large
+//! differences uses their dice, limits and roads.
 
+pub mod call;
 pub mod curves;
 pub mod dice;
 pub mod limits;
+pub mod line_edges;
 pub mod lines;
+pub mod named;
 pub mod ranges;
 pub mod roads;
+pub mod sheet_edges;
 pub mod sheet_fields;
 pub mod sheets;
 pub mod station_cases;
 pub mod station_sheets;
-pub mod writer_calls;
+pub mod writer_edges;
 
 mod call_edges;
 mod faults;
-mod line_edges;
 mod mountain_road;
 mod near_limits;
-mod random_calls;
-mod sheet_edges;
 mod sheet_faults;
 mod station_faults;

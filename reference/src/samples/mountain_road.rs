@@ -4,7 +4,7 @@
 use super::dice::Dice;
 use super::limits::{least_deflection, least_distance, least_spiral};
 use crate::curve::Curve;
-use crate::line::{Line, Side, MOST_CURVES};
+use crate::line::{Line, MOST_CURVES};
 use crate::road_tables::{DesignSpeed, SPEEDS};
 
 /// V is 40 km/h.
@@ -62,7 +62,7 @@ fn spiral(r: u32) -> u32 {
 fn put_sides(dice: &mut Dice, line: &mut Line) {
     let mut left = false;
     for side in &mut line.sides {
-        *side = Side::of(u32::from(left));
+        *side = u32::from(left);
         left ^= !dice.once_in(4);
     }
 }
@@ -76,6 +76,7 @@ fn distance(dice: &mut Dice, line: &Line, i: usize) -> u32 {
 #[cfg(test)]
 mod tests {
     use super::*;
+    use crate::line::LEFT;
     use crate::stations::stations;
 
     #[test]
@@ -97,7 +98,7 @@ mod tests {
             assert!((30_000..=40_000).contains(&l) && l % 10_000 == 0);
             assert!(a <= 120 * DEGREE);
         }
-        let left = road.sides.iter().filter(|side| **side == Side::Left);
+        let left = road.sides.iter().filter(|side| **side == LEFT);
         assert!((20..=44).contains(&left.count()));
     }
 }

@@ -6,7 +6,7 @@ use super::limits::{
 };
 use crate::curve::Curve;
 use crate::elements::{GREATEST_DEFLECTION, GREATEST_RADIUS};
-use crate::line::{Line, Side, CROSSFALLS, GREATEST_START, MOST_CURVES};
+use crate::line::{Line, CROSSFALLS, GREATEST_START, LEFT, MOST_CURVES, RIGHT};
 use crate::road_tables::{DesignSpeed, SPEEDS};
 use crate::stations::tangents;
 
@@ -61,11 +61,10 @@ pub fn shortest_road() -> Line {
     line
 }
 
-/// Gives `count` unused entries of the line any numbers, as far as there are so
-/// many.
-pub fn fill_unused(dice: &mut Dice, line: &mut Line, count: usize) {
-    let used = line.curve_count().min(MOST_CURVES);
-    for i in used..(used + count).min(MOST_CURVES) {
+/// Gives the unused entries of the line any numbers.
+#[cfg(test)]
+pub fn fill_unused(dice: &mut Dice, line: &mut Line) {
+    for i in line.curve_count()..MOST_CURVES {
         line.sides[i] = any_side(dice);
         line.curves[i] = Curve::new(any_number(dice), any_number(dice), any_number(dice));
         line.distances[i + 1] = any_number(dice);
@@ -92,8 +91,8 @@ fn unfitted_road(dice: &mut Dice, n: usize) -> Line {
     line
 }
 
-pub fn any_side(dice: &mut Dice) -> Side {
-    dice.one_of(&[Side::Right, Side::Left])
+pub fn any_side(dice: &mut Dice) -> u32 {
+    dice.one_of(&[RIGHT, LEFT])
 }
 
 fn road_start(dice: &mut Dice) -> u32 {
@@ -200,7 +199,7 @@ mod tests {
         for n in [0, 1, 63, 64] {
             let line = road(&mut dice, n);
             let mut filled = line.clone();
-            fill_unused(&mut dice, &mut filled, MOST_CURVES);
+            fill_unused(&mut dice, &mut filled);
             assert_eq!(line == filled, n == 64);
             assert_eq!(answer(&line), answer(&filled));
         }

@@ -1,7 +1,8 @@
 //! Sheets at the edges of the reader's checks.
 
-use super::call_edges::{longest_road, Fault};
+use super::call_edges::{faulty_name, first_of, longest_road, refusals_of, Fault};
 use super::dice::Dice;
+use super::named::{named, Claim, Named};
 use super::ranges::line_in_range;
 use super::roads::shortest_road;
 use super::sheet_faults::put_faults;
@@ -11,11 +12,13 @@ use super::sheet_fields::{
 };
 use crate::elements::{GREATEST_DEFLECTION, GREATEST_RADIUS, GREATEST_SPIRAL, SMALLEST_RADIUS};
 use crate::line::{Line, GREATEST_DISTANCE, GREATEST_START, MOST_CURVES};
-use crate::refusal::Refusal;
 use crate::road_tables::SPEEDS;
 
+/// A sheet with a name.
+pub type NamedSheet = Named<Vec<u8>>;
+
 /// Both sides of every check, at several places; then several faults at once.
-pub fn edges(dice: &mut Dice) -> Vec<Vec<u8>> {
+pub fn edges(dice: &mut Dice) -> Vec<NamedSheet> {
     [
         length_edges(dice),
         equal_bytes(),
@@ -24,7 +27,7 @@ pub fn edges(dice: &mut Dice) -> Vec<Vec<u8>> {
         fill_edges(dice),
         distance_edges(dice),
         curve_edges(),
-        vec![sheet_of(&shortest_road()), sheet_of(&longest_road())],
+        roads(),
         every_bit_flipped(),
         faults_at_every_place(dice),
         several_faults(dice),
@@ -33,173 +36,269 @@ pub fn edges(dice: &mut Dice) -> Vec<Vec<u8>> {
 }
 
 /// A sheet of `n` curves in range.
-pub fn sheet_in_range(dice: &mut Dice, n: usize) -> Vec<u8> {
+fn sheet_in_range(dice: &mut Dice, n: usize) -> Vec<u8> {
     sheet_of(&line_in_range(dice, n))
 }
 
+/// A value of a field, and the number of its refusal; 0 where it is in range.
+type Value = (u32, u8);
+
+/// A field, its name and the place of its refusal.
+struct Edged {
+    name: String,
+    field: Field,
+    place: usize,
+}
+
+/// A field of the heading.
+fn heading(name: &str, field: Field) -> Edged {
+    Edged {
+        name: name.to_string(),
+        field,
+        place: 0,
+    }
+}
+
+/// A field of the entries, at its place.
+fn entry(name: &str, field: fn(usize) -> Field, place: usize) -> Edged {
+    Edged {
+        name: format!("{name} {place}"),
+        field: field(place),
+        place,
+    }
+}
+
 /// The sheet with each of these values in a field.
-fn with_values(sheet: &[u8], field: Field, values: &[u32]) -> Vec<Vec<u8>> {
+fn with_values(name: &str, sheet: &[u8], edged: Edged, values: &[Value]) -> Vec<NamedSheet> {
+    let Edged {
+        name: field_name,
+        field,
+        place,
+    } = edged;
     values
         .iter()
-        .map(|value| field.with(sheet, *value))
+        .map(|&(value, number)| {
+            let name = format!("{name}, {field_name} is {value}");
+            named(name, Claim::of(number, place), field.with(sheet, value))
+        })
         .collect()
 }
 
 /// Sheets cut short, exact, and longer.
-fn length_edges(dice: &mut Dice) -> Vec<Vec<u8>> {
+fn length_edges(dice: &mut Dice) -> Vec<NamedSheet> {
     let case_9 = sheet_of(&Line::case_9());
-    let mut sheets: Vec<Vec<u8>> = (0..10).map(|length| case_9[..length].to_vec()).collect();
+    let cut = |name: String, sheet: &[u8], length: usize| {
+        let name = format!("{name}, cut to {length} bytes");
+        named(name, Claim::of(1, 0), sheet[..length].to_vec())
+    };
+    let mut sheets: Vec<NamedSheet> = (0..10)
+        .map(|length| cut("case 9".to_string(), &case_9, length))
+        .collect();
     for n in [0, 1, 2, 3, 63, MOST_CURVES] {
         let sheet = sheet_in_range(dice, n);
-        let cuts = [1, 2, sheet.len() - 7, sheet.len() - 6];
-        sheets.extend(cuts.map(|cut| sheet[..sheet.len() - cut].to_vec()));
-        let ends: [&[u8]; 5] = [&[], &[0], &[1], &[0, 0], &[0xFF; 11]];
-        sheets.extend(ends.map(|end| [&sheet, end].concat()));
+        let name = || format!("sheet of {n} curves");
+        let lengths = [sheet.len() - 1, sheet.len() - 2, 7, 6];
+        sheets.extend(lengths.map(|length| cut(name(), &sheet, length)));
+        let ends: [(&[u8], u8); 5] = [
+            (&[], 0),
+            (&[0], 7),
+            (&[1], 7),
+            (&[0, 0], 7),
+            (&[0xFF; 11], 7),
+        ];
+        sheets.extend(ends.map(|(end, number)| {
+            let name = format!("{} and behind it {end:02x?}", name());
+            named(name, Claim::of(number, 0), [&sheet, end].concat())
+        }));
     }
     sheets
 }
 
 /// All bytes alike, at the lengths where the reader looks at them.
-fn equal_bytes() -> Vec<Vec<u8>> {
+fn equal_bytes() -> Vec<NamedSheet> {
     let mut sheets = Vec::new();
-    for byte in [0x00, 0x10, 0x11, 0xFF] {
+    for (byte, number) in [(0x00, 2), (0x10, 4), (0x11, 4), (0xFF, 2)] {
         for length in [1, 6, 7, 10, 21, 706, 720] {
-            sheets.push(vec![byte; length]);
+            let number = if length < 7 { 1 } else { number };
+            let name = format!("{length} bytes {byte:02x}");
+            sheets.push(named(name, Claim::of(number, 0), vec![byte; length]));
         }
     }
     sheets
 }
 
 /// Other counts in sheets of no curve, of one and of the most.
-fn count_edges(dice: &mut Dice) -> Vec<Vec<u8>> {
+fn count_edges(dice: &mut Dice) -> Vec<NamedSheet> {
+    let counts = [0, 1, 2, 63, 64, 65, 66, 127];
     let mut sheets = Vec::new();
-    for n in [0, 1, MOST_CURVES] {
+    for (n, numbers) in [
+        (0, [0, 1, 1, 1, 1, 3, 3, 3]),
+        (1, [7, 0, 1, 1, 1, 3, 3, 3]),
+        (MOST_CURVES, [7, 7, 7, 7, 0, 3, 3, 3]),
+    ] {
         let sheet = sheet_in_range(dice, n);
-        sheets.extend(with_values(&sheet, COUNT, &[0, 1, 2, 63, 64, 65, 66, 127]));
+        let values: Vec<Value> = counts.into_iter().zip(numbers).collect();
+        let name = format!("bytes of {n} curves");
+        sheets.extend(with_values(&name, &sheet, heading("n", COUNT), &values));
     }
     sheets
 }
 
 /// The edges of edition and V without a curve, of e and start also with one.
-fn heading_edges() -> Vec<Vec<u8>> {
-    let speeds: Vec<u32> = SPEEDS
+fn heading_edges() -> Vec<NamedSheet> {
+    let editions: Vec<Value> = (0..16).map(|i| (i, if i == 1 { 0 } else { 2 })).collect();
+    let speeds: Vec<Value> = SPEEDS
         .into_iter()
-        .flat_map(|speed| [speed.v - 1, speed.v, speed.v + 1])
-        .chain([0, 1, 30, 45, 127])
+        .flat_map(|speed| [(speed.v - 1, 4), (speed.v, 0), (speed.v + 1, 4)])
+        .chain([0, 1, 30, 45, 127].map(|v| (v, 4)))
         .collect();
-    let every_value: Vec<u32> = (0..16).collect();
+    let crossfalls: Vec<Value> = (0..16)
+        .map(|e| (e, if (2..=12).contains(&e) { 0 } else { 5 }))
+        .collect();
     let starts = [
-        1,
-        GREATEST_START - 1,
-        GREATEST_START,
-        GREATEST_START + 1,
+        (1, 0),
+        (GREATEST_START - 1, 0),
+        (GREATEST_START, 0),
+        (GREATEST_START + 1, 6),
         // The two highest bits alone.
-        3 << 26,
-        START.most() - 1,
-        START.most(),
+        (3 << 26, 6),
+        (START.most() - 1, 6),
+        (START.most(), 6),
     ];
+    let few_crossfalls = [(1, 5), (2, 0), (12, 0), (13, 5)];
     let without_curve = sheet_of(&Line::case_9());
     let with_curve = sheet_of(&Line::case_1());
+    let case_9 = |edged, values: &[Value]| with_values("case 9", &without_curve, edged, values);
+    let case_1 = |edged, values: &[Value]| with_values("case 1", &with_curve, edged, values);
     [
-        with_values(&without_curve, EDITION, &every_value),
-        with_values(&without_curve, SPEED, &speeds),
-        with_values(&without_curve, CROSSFALL, &every_value),
-        with_values(&with_curve, CROSSFALL, &[1, 2, 12, 13]),
-        with_values(&without_curve, START, &starts),
-        with_values(&with_curve, START, &starts),
+        case_9(heading("edition", EDITION), &editions),
+        case_9(heading("V", SPEED), &speeds),
+        case_9(heading("e", CROSSFALL), &crossfalls),
+        case_1(heading("e", CROSSFALL), &few_crossfalls),
+        case_9(heading("start", START), &starts),
+        case_1(heading("start", START), &starts),
     ]
     .concat()
 }
 
 /// Every fill bit alone, all of them, and the last bit before them changed, for
 /// every width of the fill.
-fn fill_edges(dice: &mut Dice) -> Vec<Vec<u8>> {
+fn fill_edges(dice: &mut Dice) -> Vec<NamedSheet> {
     let mut sheets = Vec::new();
     for n in (0..8).chain([MOST_CURVES]) {
         let sheet = sheet_in_range(dice, n);
+        let name = format!("sheet of {n} curves");
         let fill = fill(n);
-        let mut values: Vec<u32> = (0..fill.width).map(|bit| 1 << bit).collect();
-        values.push(fill.most());
-        sheets.extend(with_values(&sheet, fill, &values));
+        let mut values: Vec<Value> = (0..fill.width).map(|bit| (1 << bit, 7)).collect();
+        values.push((fill.most(), if fill.width == 0 { 0 } else { 7 }));
+        sheets.extend(with_values(
+            &name,
+            &sheet,
+            heading("all fill", fill),
+            &values,
+        ));
         let mut other_distance = sheet;
         flip(&mut other_distance, fill.first - 1);
-        sheets.push(other_distance);
+        let name = format!("{name}, last bit of the last distance changed");
+        sheets.push(named(name, Claim::Open, other_distance));
     }
     sheets
 }
 
 /// The edges of the first, a middle and the last distance.
-fn distance_edges(dice: &mut Dice) -> Vec<Vec<u8>> {
+fn distance_edges(dice: &mut Dice) -> Vec<NamedSheet> {
     let mut sheets = Vec::new();
     for (n, i) in [(0, 0), (2, 0), (2, 1), (2, 2), (MOST_CURVES, MOST_CURVES)] {
         let sheet = sheet_in_range(dice, n);
         let values = [
-            0,
-            1,
-            GREATEST_DISTANCE,
-            GREATEST_DISTANCE + 1,
-            distance(i).most(),
+            (0, 8),
+            (1, 0),
+            (GREATEST_DISTANCE, 0),
+            (GREATEST_DISTANCE + 1, 8),
+            (distance(i).most(), 8),
         ];
-        sheets.extend(with_values(&sheet, distance(i), &values));
+        let name = format!("sheet of {n} curves");
+        let edged = entry("distance", distance, i);
+        sheets.extend(with_values(&name, &sheet, edged, &values));
     }
     sheets
 }
 
 /// The edges of side, A, R and L.
-fn curve_edges() -> Vec<Vec<u8>> {
+fn curve_edges() -> Vec<NamedSheet> {
     let sheet = sheet_of(&Line::case_1());
     let deflections = [
-        0,
-        1,
-        GREATEST_DEFLECTION,
-        GREATEST_DEFLECTION + 1,
-        deflection(1).most(),
+        (0, 9),
+        (1, 0),
+        (GREATEST_DEFLECTION, 0),
+        (GREATEST_DEFLECTION + 1, 9),
+        (deflection(1).most(), 9),
     ];
     // L is 40,000.
     let radii = [
-        0,
-        SMALLEST_RADIUS - 1,
-        SMALLEST_RADIUS,
-        39_999,
-        40_000,
-        GREATEST_RADIUS,
-        GREATEST_RADIUS + 1,
-        radius(1).most(),
+        (0, 10),
+        (SMALLEST_RADIUS - 1, 10),
+        (SMALLEST_RADIUS, 11),
+        (39_999, 11),
+        (40_000, 0),
+        (GREATEST_RADIUS, 0),
+        (GREATEST_RADIUS + 1, 10),
+        (radius(1).most(), 10),
     ];
     // R is 350,000.
-    let short_spirals = [0, 1, 350_000, 350_001, GREATEST_SPIRAL];
-    let mut large_radius = sheet.clone();
-    radius(1).put(&mut large_radius, 500_001);
-    let spirals = [
-        GREATEST_SPIRAL - 1,
-        GREATEST_SPIRAL,
-        GREATEST_SPIRAL + 1,
-        spiral(1).most(),
+    let short_spirals = [
+        (0, 0),
+        (1, 0),
+        (350_000, 0),
+        (350_001, 11),
+        (GREATEST_SPIRAL, 11),
     ];
+    let large_radius = radius(1).with(&sheet, 500_001);
+    let spirals = [
+        (GREATEST_SPIRAL - 1, 0),
+        (GREATEST_SPIRAL, 0),
+        (GREATEST_SPIRAL + 1, 11),
+        (spiral(1).most(), 11),
+    ];
+    let case_1 = |edged, values: &[Value]| with_values("case 1", &sheet, edged, values);
     [
-        with_values(&sheet, side(1), &[0, 1]),
-        with_values(&sheet, deflection(1), &deflections),
-        with_values(&sheet, radius(1), &radii),
-        with_values(&sheet, spiral(1), &short_spirals),
-        with_values(&large_radius, spiral(1), &spirals),
+        case_1(entry("side", side, 1), &[(0, 0), (1, 0)]),
+        case_1(entry("deflection", deflection, 1), &deflections),
+        case_1(entry("radius", radius, 1), &radii),
+        case_1(entry("spiral", spiral, 1), &short_spirals),
+        with_values(
+            "radius of 500001",
+            &large_radius,
+            entry("spiral", spiral, 1),
+            &spirals,
+        ),
     ]
     .concat()
 }
 
+/// The shortest and the longest road of 64 curves.
+fn roads() -> Vec<NamedSheet> {
+    let [shortest, longest] = [shortest_road(), longest_road()].map(|road| sheet_of(&road));
+    vec![
+        named("sheet of the shortest road", Claim::Accepted, shortest),
+        named("sheet of the longest road", Claim::Accepted, longest),
+    ]
+}
+
 /// Case 1 with each bit changed, fill included.
-fn every_bit_flipped() -> Vec<Vec<u8>> {
+fn every_bit_flipped() -> Vec<NamedSheet> {
     let sheet = sheet_of(&Line::case_1());
     let flipped = |bit: usize| {
         let mut sheet = sheet.clone();
         flip(&mut sheet, bit);
-        sheet
+        named(format!("case 1, bit {bit} changed"), Claim::Open, sheet)
     };
     (0..8 * sheet.len()).map(flipped).collect()
 }
 
 /// Refusals 8 to 11 at the first, a middle and the last place of a sheet, and of
 /// a full one.
-fn faults_at_every_place(dice: &mut Dice) -> Vec<Vec<u8>> {
+fn faults_at_every_place(dice: &mut Dice) -> Vec<NamedSheet> {
     let mut sheets = Vec::new();
     for number in 8..=11 {
         let first = usize::from(number != 8);
@@ -255,7 +354,7 @@ const FAULTS_OF_64: [&[Fault]; 6] = [
 ];
 
 /// Several faults at once, so that the order of the checks shows.
-fn several_faults(dice: &mut Dice) -> Vec<Vec<u8>> {
+fn several_faults(dice: &mut Dice) -> Vec<NamedSheet> {
     let mut sheets = Vec::new();
     sheets.extend(FAULTS_OF_FOUR.map(|faults| faulty_sheet(dice, 4, faults)));
     sheets.extend(FAULTS_OF_64.map(|faults| faulty_sheet(dice, 64, faults)));
@@ -265,89 +364,48 @@ fn several_faults(dice: &mut Dice) -> Vec<Vec<u8>> {
 
 /// Each fault of the heading, cut to six bytes, refused 1; and to seven, refused
 /// for the fault.
-fn cut_faults(dice: &mut Dice) -> Vec<Vec<u8>> {
+fn cut_faults(dice: &mut Dice) -> Vec<NamedSheet> {
     let mut sheets = Vec::new();
-    for number in 2..=6 {
-        let sheet = faulty_sheet(dice, 4, &[(number, 0), (8, 0)]);
-        sheets.extend([6, 7].map(|length| sheet[..length].to_vec()));
+    for fault in 2..=6 {
+        let faulty = faulty_sheet(dice, 4, &[(fault, 0), (8, 0)]);
+        sheets.extend([(6, 1), (7, fault)].map(|(length, number)| {
+            let name = format!("{}, cut to {length} bytes", faulty.name);
+            let sheet = faulty.sample[..length].to_vec();
+            named(name, Claim::of(number, 0), sheet)
+        }));
     }
     sheets
 }
 
 /// A sheet of `n` curves with these faults.
-fn faulty_sheet(dice: &mut Dice, n: usize, faults: &[Fault]) -> Vec<u8> {
+fn faulty_sheet(dice: &mut Dice, n: usize, faults: &[Fault]) -> NamedSheet {
     let mut sheet = sheet_in_range(dice, n);
-    let faults: Vec<Refusal> = faults
-        .iter()
-        .map(|&(number, place)| Refusal { number, place })
-        .collect();
-    put_faults(dice, &mut sheet, &faults);
-    sheet
+    put_faults(dice, &mut sheet, &refusals_of(faults));
+    named(faulty_name("sheet", n, faults), first_of(faults), sheet)
 }
 
 #[cfg(test)]
 mod tests {
     use super::*;
-    use crate::refusal::refuse;
     use crate::sheet::read;
 
-    /// Number of each sheet's refusal; 0 for an accepted one.
-    fn numbers(sheets: Vec<Vec<u8>>) -> Vec<u8> {
-        let number = |sheet: &Vec<u8>| read(sheet).map_or_else(|refusal| refusal.number, |_| 0);
-        sheets.iter().map(number).collect()
-    }
+    /// The refusals of the reader.
+    const REFUSALS: [u8; 11] = [1, 2, 3, 4, 5, 6, 7, 8, 9, 10, 11];
 
     #[test]
-    fn limits_have_both_sides() {
-        let mut dice = Dice::new(1);
-        assert_eq!(
-            numbers(distance_edges(&mut dice)),
-            [8, 0, 0, 8, 8].repeat(5)
-        );
-        let curves: [&[u8]; 5] = [
-            &[0, 0],
-            &[9, 0, 0, 9, 9],
-            &[10, 10, 11, 11, 0, 0, 10, 10],
-            &[0, 0, 0, 11, 11],
-            &[0, 0, 11, 11],
-        ];
-        assert_eq!(numbers(curve_edges()), curves.concat());
-        let counts = [
-            [0, 1, 1, 1, 1, 3, 3, 3],
-            [7, 0, 1, 1, 1, 3, 3, 3],
-            [7, 7, 7, 7, 0, 3, 3, 3],
-        ];
-        assert_eq!(numbers(count_edges(&mut dice)), counts.concat());
-    }
-
-    #[test]
-    fn lengths_have_both_sides() {
-        let cut_case_9 = [1; 10];
-        let each = [1, 1, 1, 1, 0, 7, 7, 7, 7].repeat(6);
-        let expected = [&cut_case_9[..], &each].concat();
-        assert_eq!(numbers(length_edges(&mut Dice::new(1))), expected);
+    fn edges_are_answered_as_claimed() {
+        for edge in edges(&mut Dice::new(1)) {
+            let answer = read(&edge.sample);
+            assert!(edge.holds(&REFUSALS, &answer), "{edge:02x?}");
+        }
     }
 
     #[test]
     fn every_fill_bit_is_refused() {
-        let numbers = numbers(fill_edges(&mut Dice::new(1)));
-        let refused = numbers.iter().filter(|number| **number == 7).count();
+        let edges = fill_edges(&mut Dice::new(1));
+        let refused = edges.iter().filter(|edge| edge.claim == Claim::of(7, 0));
         // Bits of the fill for 0 to 7 curves and for 64; all bits of each but
         // that of 3 curves, which has none.
-        assert_eq!(refused, (5 + 6 + 7 + 1 + 2 + 3 + 4 + 5) + 8);
-    }
-
-    #[test]
-    fn first_of_several_faults_is_the_refusal() {
-        let mut dice = Dice::new(1);
-        for (n, lists) in [(4, &FAULTS_OF_FOUR[..]), (64, &FAULTS_OF_64)] {
-            for faults in lists {
-                let (number, place) = faults[0];
-                let sheet = faulty_sheet(&mut dice, n, faults);
-                assert_eq!(read(&sheet), refuse(number, place), "{sheet:02x?}");
-            }
-        }
-        let cut = [1, 2, 1, 3, 1, 4, 1, 5, 1, 6];
-        assert_eq!(numbers(cut_faults(&mut dice)), cut);
+        assert_eq!(refused.count(), (5 + 6 + 7 + 1 + 2 + 3 + 4 + 5) + 8);
     }
 }

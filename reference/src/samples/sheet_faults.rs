@@ -78,7 +78,7 @@ fn overrun(dice: &mut Dice, sheet: &mut Vec<u8>) {
 }
 
 /// Sets bits of the fill, often only one. False if the sheet has no fill.
-pub fn set_fill(dice: &mut Dice, sheet: &mut [u8]) -> bool {
+fn set_fill(dice: &mut Dice, sheet: &mut [u8]) -> bool {
     let fill = fill(COUNT.value(sheet) as usize);
     if fill.width == 0 {
         return false;

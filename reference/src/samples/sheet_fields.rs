@@ -117,7 +117,7 @@ fn values(line: &Line) -> Vec<(Field, u32)> {
     for i in 1..=line.curve_count() {
         let Curve { a, r, l } = line.curve(i);
         values.extend([
-            (side(i), line.sides[i - 1].number()),
+            (side(i), line.sides[i - 1]),
             (deflection(i), a),
             (radius(i), r),
             (spiral(i), l),

@@ -1,11 +1,11 @@
 //! Faults put into a road's sheet: those that the reader refuses, and those that
 //! only the calculator does.
 
+use super::call::{Call, Callee::Calculator};
 use super::dice::Dice;
 use super::faults;
 use super::sheet_faults;
 use super::sheet_fields::sheet_of;
-use crate::call::{Call, Callee::Calculator};
 use crate::line::Line;
 use crate::refusal::Refusal;
 

@@ -35,11 +35,14 @@ pub fn sample_station_sheets(seed: u64, count: usize) -> impl Iterator<Item = Ve
 fn edges(dice: &mut Dice) -> Vec<Vec<u8>> {
     let mut lines: Vec<Line> = line_edges::edges(dice)
         .into_iter()
-        .map(|call| call.line)
+        .map(|edge| edge.sample.line)
         .collect();
     // The row's lengths make no difference here.
     lines.dedup();
-    let mut sheets = sheet_edges::edges(dice);
+    let mut sheets: Vec<Vec<u8>> = sheet_edges::edges(dice)
+        .into_iter()
+        .map(|edge| edge.sample)
+        .collect();
     sheets.extend(lines.iter().filter_map(sheet_of_any));
     sheets.extend(full_length_edges(dice));
     sheets

@@ -1,0 +1,83 @@
+//! Prints every name of the crate that the C header has too, with its number,
+//! and the words of refusals 0 to 20. `examples/c/names.c` prints the same from
+//! the header.
+
+use pokyandi::{curve, element, line, Reason};
+
+fn main() {
+    show("version", pokyandi::version());
+    show_sizes();
+    show_indexes();
+    show_refusals();
+}
+
+fn show(name: &str, number: u64) {
+    println!("{name} {number}");
+}
+
+fn show_sizes() {
+    show("VERSION", pokyandi::VERSION);
+    let sizes = [
+        ("STACK_BYTES", pokyandi::STACK_BYTES),
+        ("SHEET_BYTES", pokyandi::SHEET_BYTES),
+        ("LINE_NUMBERS", pokyandi::LINE_NUMBERS),
+        ("ROW_NUMBERS", pokyandi::ROW_NUMBERS),
+        ("TEXT_BYTES", pokyandi::TEXT_BYTES),
+        ("ELEMENT_NUMBERS", pokyandi::ELEMENT_NUMBERS),
+    ];
+    show_all(&sizes);
+}
+
+fn show_indexes() {
+    let indexes = [
+        ("X", element::X),
+        ("Y", element::Y),
+        ("K", element::K),
+        ("P", element::P),
+        ("D", element::D),
+        ("TT", element::TT),
+        ("LINE_CURVES", line::CURVES),
+        ("LINE_SPEED", line::SPEED),
+        ("LINE_CROSSFALL", line::CROSSFALL),
+        ("LINE_START", line::START),
+        ("CURVE_SIDE", curve::SIDE),
+        ("CURVE_DEFLECTION", curve::DEFLECTION),
+        ("CURVE_RADIUS", curve::RADIUS),
+        ("CURVE_SPIRAL", curve::SPIRAL),
+    ];
+    show_all(&indexes);
+    show("RIGHT", curve::RIGHT.into());
+    show("LEFT", curve::LEFT.into());
+    for i in 0..=64 {
+        show_all(&[("curve", line::curve(i)), ("distance", line::distance(i))]);
+    }
+}
+
+fn show_all(names: &[(&str, usize)]) {
+    for (name, number) in names {
+        show(name, *number as u64);
+    }
+}
+
+/// A reason has the name in capitals, its words set apart: LEAST_RADIUS.
+fn show_refusals() {
+    show("DONE", 0);
+    for reason in Reason::ALL {
+        show(&in_capitals(&format!("{reason:?}")), reason.number().into());
+    }
+    for number in 0..=20 {
+        let words = Reason::of(number).map_or("not refused", Reason::words);
+        println!("{number}: {words}");
+    }
+}
+
+fn in_capitals(name: &str) -> String {
+    let mut capitals = String::new();
+    for letter in name.chars() {
+        if letter.is_uppercase() && !capitals.is_empty() {
+            capitals.push('_');
+        }
+        capitals.push(letter.to_ascii_uppercase());
+    }
+    capitals
+}

@@ -1,0 +1,59 @@
+//! Names for the numbers of elements and lines.
+
+/// Where the elements of one curve stand.
+pub mod element {
+    /// Abscissa of SC on the tangent.
+    pub const X: usize = 0;
+    /// Ordinate of SC.
+    pub const Y: usize = 1;
+    /// Abscissa of the centre.
+    pub const K: usize = 2;
+    /// Shift of the arc.
+    pub const P: usize = 3;
+    /// Length of the arc.
+    pub const D: usize = 4;
+    /// Tangent, from PI to TS and ST.
+    pub const TT: usize = 5;
+}
+
+/// Where the numbers of a line stand: five for its head, then five for each
+/// curve.
+pub mod line {
+    /// Number of curves n, 0 to 64.
+    pub const CURVES: usize = 0;
+    /// Design speed V, km/h.
+    pub const SPEED: usize = 1;
+    /// Crossfall e, percent: the greatest superelevation.
+    pub const CROSSFALL: usize = 2;
+    /// Start station, mm.
+    pub const START: usize = 3;
+
+    /// Where the numbers of curve i begin, 1 to n: its radius stands at
+    /// `line::curve(i) + curve::RADIUS`.
+    pub const fn curve(i: usize) -> usize {
+        5 * i
+    }
+
+    /// Where distance i stands, 0 to n; mm.
+    pub const fn distance(i: usize) -> usize {
+        5 * i + 4
+    }
+}
+
+/// Where the numbers of one curve stand, from [`line::curve`](crate::line::curve)
+/// on.
+pub mod curve {
+    /// Side, [`RIGHT`] or [`LEFT`].
+    pub const SIDE: usize = 0;
+    /// Deflection A, seconds of arc.
+    pub const DEFLECTION: usize = 1;
+    /// Radius R, mm.
+    pub const RADIUS: usize = 2;
+    /// Spiral length L, mm.
+    pub const SPIRAL: usize = 3;
+
+    /// The side of a curve to the right.
+    pub const RIGHT: u32 = 0;
+    /// The side of a curve to the left.
+    pub const LEFT: u32 = 1;
+}

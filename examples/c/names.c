@@ -1,0 +1,74 @@
+/* Prints every name of the header that the Rust crate has too, with its number, and the words of refusals 0 to 20.
+ * bindings/rust/examples/names.rs prints the same from the crate. */
+#include "pokyandi.h"
+
+#include <inttypes.h>
+#include <stdio.h>
+
+static void show(const char *name, uint64_t number) { printf("%s %" PRIu64 "\n", name, number); }
+
+#define SHOW(name) show(#name, POKYANDI_##name)
+
+static void show_sizes(void) {
+    SHOW(VERSION);
+    SHOW(STACK_BYTES);
+    SHOW(SHEET_BYTES);
+    SHOW(LINE_NUMBERS);
+    SHOW(ROW_NUMBERS);
+    SHOW(TEXT_BYTES);
+    SHOW(ELEMENT_NUMBERS);
+}
+
+static void show_indexes(void) {
+    SHOW(X);
+    SHOW(Y);
+    SHOW(K);
+    SHOW(P);
+    SHOW(D);
+    SHOW(TT);
+    SHOW(LINE_CURVES);
+    SHOW(LINE_SPEED);
+    SHOW(LINE_CROSSFALL);
+    SHOW(LINE_START);
+    SHOW(CURVE_SIDE);
+    SHOW(CURVE_DEFLECTION);
+    SHOW(CURVE_RADIUS);
+    SHOW(CURVE_SPIRAL);
+    SHOW(RIGHT);
+    SHOW(LEFT);
+    for (size_t i = 0; i <= 64; i++) {
+        show("curve", pokyandi_curve(i));
+        show("distance", pokyandi_distance(i));
+    }
+}
+
+static void show_refusals(void) {
+    SHOW(DONE);
+    SHOW(TRUNCATED);
+    SHOW(EDITION);
+    SHOW(CURVE_COUNT);
+    SHOW(SPEED);
+    SHOW(CROSSFALL);
+    SHOW(START);
+    SHOW(TRAILING);
+    SHOW(DISTANCE);
+    SHOW(DEFLECTION);
+    SHOW(RADIUS);
+    SHOW(SPIRAL);
+    SHOW(LEAST_RADIUS);
+    SHOW(LEAST_SPIRAL);
+    SHOW(SHORT_ARC);
+    SHOW(SHORT_STRAIGHT);
+    SHOW(SMALL_BUFFER);
+    for (uint32_t number = 0; number <= 20; number++) {
+        printf("%" PRIu32 ": %s\n", number, pokyandi_words(number));
+    }
+}
+
+int main(void) {
+    show("version", pokyandi_version());
+    show_sizes();
+    show_indexes();
+    show_refusals();
+    return 0;
+}
