@@ -1,12 +1,11 @@
 //! Before a job is timed, the answers of both sides are compared for each input.
 
 use crate::baseline;
-use crate::inputs::Inputs;
+use crate::inputs::{Inputs, Road};
 use crate::job::{Job, Task};
 use crate::library::Library;
 use crate::reference_side::Reference;
 use crate::side::Side;
-use pokyandi::SHEET_BYTES;
 use reference::curve::Curve;
 use std::fmt::Debug;
 
@@ -22,25 +21,23 @@ pub fn compare(job: Job, inputs: &Inputs) -> Result<(), String> {
     for i in 0..job.input_count(inputs) {
         let same = match job.task {
             Task::Elements => compare_curve(inputs.curves[i], &mut library, &mut reference),
-            task => compare_sheet(task, &job.sheets(inputs)[i], &mut library, &mut reference),
+            task => compare_road(task, &job.roads(inputs)[i], &mut library, &mut reference),
         };
         same.map_err(|problem| format!("{}, input {i}: {problem}", job.name))?;
     }
     Ok(())
 }
 
-fn compare_sheet(
+fn compare_road(
     task: Task,
-    sheet: &[u8],
+    Road { sheet, line }: &Road,
     library: &mut Library,
     reference: &mut Reference,
 ) -> Result<(), String> {
     match task {
-        Task::Read => same(library.rewrite(sheet, 0), reference.rewrite(sheet, 0)),
-        Task::Rewrite => same(
-            library.rewrite(sheet, SHEET_BYTES),
-            reference.rewrite(sheet, SHEET_BYTES),
-        ),
+        Task::Read => same(library.read(sheet), reference.read(sheet)),
+        Task::Write => same(library.write(line), reference.write(line)),
+        Task::Rewrite => same(library.rewrite(sheet), reference.rewrite(sheet)),
         Task::Stations => same(library.stations(sheet), reference.stations(sheet)),
         Task::Check => same(library.check(sheet), reference.check(sheet)),
         Task::Text => same(library.text(sheet), reference.text(sheet)),

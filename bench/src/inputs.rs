@@ -16,21 +16,27 @@ const FULL_SHEETS: usize = 32;
 const SINGLE_SHEETS: usize = 256;
 
 pub struct Inputs {
-    /// Sheets of 64 curves; the first is the mountain road of the samples.
-    pub full: Vec<Vec<u8>>,
-    /// Sheets of one curve.
-    pub single: Vec<Vec<u8>>,
-    /// The curves of the full sheets.
+    /// Those of 64 curves; the first is the mountain road of the samples.
+    pub full: Vec<Road>,
+    /// Those of one curve.
+    pub single: Vec<Road>,
+    /// The curves of the full ones.
     pub curves: Vec<Curve>,
+}
+
+/// A sheet, and its line in numbers.
+pub struct Road {
+    pub sheet: Vec<u8>,
+    pub line: Vec<u32>,
 }
 
 impl Inputs {
     pub fn make() -> Inputs {
         let mut dice = Dice::new(SEED);
-        let mut full = vec![mountain_road()];
+        let mut full = vec![road_of(mountain_road())];
         full.extend(random_roads(&mut dice, MOST_CURVES, FULL_SHEETS - 1));
         let single = random_roads(&mut dice, 1, SINGLE_SHEETS);
-        let curves = full.iter().flat_map(|sheet| line_of(sheet).curves);
+        let curves = full.iter().flat_map(|road| line_of(&road.sheet).curves);
         Inputs {
             curves: curves.collect(),
             full,
@@ -56,15 +62,16 @@ pub fn mountain_road() -> Vec<u8> {
     named.expect("the samples have the mountain road").sheet
 }
 
-fn random_roads(dice: &mut Dice, curves: usize, count: usize) -> Vec<Vec<u8>> {
+fn random_roads(dice: &mut Dice, curves: usize, count: usize) -> Vec<Road> {
     (0..count)
-        .map(|_| accepted(sheet_of(&road(dice, curves))))
+        .map(|_| road_of(sheet_of(&road(dice, curves))))
         .collect()
 }
 
-fn accepted(sheet: Vec<u8>) -> Vec<u8> {
-    row(&sheet).expect("a random road is accepted");
-    sheet
+fn road_of(sheet: Vec<u8>) -> Road {
+    row(&sheet).expect("the road is accepted");
+    let line = line_of(&sheet).numbers();
+    Road { sheet, line }
 }
 
 fn line_of(sheet: &[u8]) -> Line {

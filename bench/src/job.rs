@@ -1,15 +1,15 @@
 //! The jobs: a call, and the inputs that it is made with one after the other.
 
 use crate::baseline;
-use crate::inputs::Inputs;
+use crate::inputs::{Inputs, Road};
 use crate::side::Side;
-use pokyandi::SHEET_BYTES;
 use std::hint::black_box;
 
 /// The call of a job.
 #[derive(Clone, Copy, PartialEq, Eq)]
 pub enum Task {
     Read,
+    Write,
     Rewrite,
     Stations,
     Check,
@@ -34,12 +34,9 @@ pub struct Job {
     size: Size,
 }
 
-pub const JOBS: [Job; 11] = [
-    full(
-        "read-64",
-        "read, and written to no bytes, 64 curves",
-        Task::Read,
-    ),
+pub const JOBS: [Job; 13] = [
+    full("read-64", "read, 64 curves", Task::Read),
+    full("write-64", "written, 64 curves", Task::Write),
     full("rewrite-64", "read and written, 64 curves", Task::Rewrite),
     full(
         "stations-64",
@@ -48,11 +45,8 @@ pub const JOBS: [Job; 11] = [
     ),
     full("check-64", "checked, 64 curves (*)", Task::Check),
     full("text-64", "text, 64 curves", Task::Text),
-    single(
-        "read-1",
-        "read, and written to no bytes, 1 curve",
-        Task::Read,
-    ),
+    single("read-1", "read, 1 curve", Task::Read),
+    single("write-1", "written, 1 curve", Task::Write),
     single("rewrite-1", "read and written, 1 curve", Task::Rewrite),
     single("stations-1", "read and calculated, 1 curve", Task::Stations),
     single("check-1", "checked, 1 curve (*)", Task::Check),
@@ -86,8 +80,8 @@ impl Job {
         JOBS.into_iter().find(|job| job.name == name)
     }
 
-    /// The sheets of the job.
-    pub fn sheets(self, inputs: &Inputs) -> &[Vec<u8>] {
+    /// The roads of the job.
+    pub fn roads(self, inputs: &Inputs) -> &[Road] {
         match self.size {
             Size::Full => &inputs.full,
             Size::Single => &inputs.single,
@@ -98,7 +92,7 @@ impl Job {
     pub fn input_count(self, inputs: &Inputs) -> usize {
         match self.task {
             Task::Elements => inputs.curves.len(),
-            _ => self.sheets(inputs).len(),
+            _ => self.roads(inputs).len(),
         }
     }
 }
@@ -109,7 +103,7 @@ pub fn work<S: Side>(job: Job, side: &mut S, inputs: &Inputs, times: usize) {
     for _ in 0..times {
         match job.task {
             Task::Elements => each_curve(side, inputs),
-            task => each_sheet(task, side, job.sheets(inputs)),
+            task => each_road(task, side, job.roads(inputs)),
         }
     }
 }
@@ -120,12 +114,13 @@ fn each_curve<S: Side>(side: &mut S, inputs: &Inputs) {
     }
 }
 
-fn each_sheet<S: Side>(task: Task, side: &mut S, sheets: &[Vec<u8>]) {
-    for sheet in sheets {
+fn each_road<S: Side>(task: Task, side: &mut S, roads: &[Road]) {
+    for Road { sheet, line } in roads {
         let sheet = black_box(&sheet[..]);
         match task {
-            Task::Read => keep(side.rewrite(sheet, 0)),
-            Task::Rewrite => keep(side.rewrite(sheet, SHEET_BYTES)),
+            Task::Read => keep(side.read(sheet)),
+            Task::Write => keep(side.write(black_box(line))),
+            Task::Rewrite => keep(side.rewrite(sheet)),
             Task::Stations => keep(side.stations(sheet)),
             Task::Check => keep(side.check(sheet)),
             Task::Text => keep(side.text(sheet)),

@@ -1,10 +1,11 @@
 //! The proved library.
 
 use crate::side::{Answer, Refused, Side};
-use pokyandi::{Refusal, ELEMENT_NUMBERS, ROW_NUMBERS, SHEET_BYTES, TEXT_BYTES};
+use pokyandi::{Refusal, ELEMENT_NUMBERS, LINE_NUMBERS, ROW_NUMBERS, SHEET_BYTES, TEXT_BYTES};
 use reference::curve::Curve;
 
 pub struct Library {
+    line: [u32; LINE_NUMBERS],
     bytes: [u8; SHEET_BYTES],
     row: [u64; ROW_NUMBERS],
     text: [u8; TEXT_BYTES],
@@ -14,6 +15,7 @@ pub struct Library {
 impl Library {
     pub fn new() -> Library {
         Library {
+            line: [0; LINE_NUMBERS],
             bytes: [0; SHEET_BYTES],
             row: [0; ROW_NUMBERS],
             text: [0; TEXT_BYTES],
@@ -32,8 +34,18 @@ impl From<Refusal> for Refused {
 }
 
 impl Side for Library {
-    fn rewrite(&mut self, sheet: &[u8], room: usize) -> Answer<&[u8]> {
-        let count = pokyandi::rewrite(sheet, &mut self.bytes[..room])?;
+    fn read(&mut self, sheet: &[u8]) -> Answer<&[u32]> {
+        let count = pokyandi::read(sheet, &mut self.line)?;
+        Ok(&self.line[..count])
+    }
+
+    fn write(&mut self, line: &[u32]) -> Answer<&[u8]> {
+        let count = pokyandi::write(line, &mut self.bytes)?;
+        Ok(&self.bytes[..count])
+    }
+
+    fn rewrite(&mut self, sheet: &[u8]) -> Answer<&[u8]> {
+        let count = pokyandi::rewrite(sheet, &mut self.bytes)?;
         Ok(&self.bytes[..count])
     }
 

@@ -1,9 +1,11 @@
-//! The station program and the reference's, run with a sheet on standard input.
+//! The station program and the reference's, run with a sheet on standard input;
+//! the reference takes it in hexadecimal digits.
 
 use crate::arguments::{from_top, Options};
 use crate::inputs::mountain_road;
 use crate::measure::{alternate, Work};
 use crate::table::print_row;
+use reference::hexadecimal::digits_of;
 use reference::report::report;
 use std::fs::{self, File};
 use std::path::{Path, PathBuf};
@@ -44,19 +46,19 @@ fn find(named: &Option<PathBuf>, usual: &str) -> Result<Option<PathBuf>, String>
     Ok(None)
 }
 
-/// A sheet's file, which is removed in the end.
-struct SheetFile(PathBuf);
+/// A program's input, which is removed in the end.
+struct InputFile(PathBuf);
 
-impl SheetFile {
-    fn new(sheet: &[u8]) -> Result<SheetFile, String> {
-        let name = format!("pokyandi-bench-{}.sheet", std::process::id());
+impl InputFile {
+    fn new(ending: &str, bytes: &[u8]) -> Result<InputFile, String> {
+        let name = format!("pokyandi-bench-{}.{ending}", std::process::id());
         let path = std::env::temp_dir().join(name);
-        fs::write(&path, sheet).map_err(|error| told(&path, &error))?;
-        Ok(SheetFile(path))
+        fs::write(&path, bytes).map_err(|error| told(&path, &error))?;
+        Ok(InputFile(path))
     }
 }
 
-impl Drop for SheetFile {
+impl Drop for InputFile {
     fn drop(&mut self) {
         // What is left in the folder for temporary files does no harm.
         let _ = fs::remove_file(&self.0);
@@ -68,13 +70,13 @@ impl Drop for SheetFile {
 /// nothing, in ns.
 pub fn measure(programs: &Programs, rounds: usize) -> Result<f64, String> {
     let sheet = mountain_road();
-    let file = SheetFile::new(&sheet)?;
+    let InputFile(bytes) = &InputFile::new("sheet", &sheet)?;
+    let InputFile(digits) = &InputFile::new("digits", digits_of(&sheet).as_bytes())?;
     let expected = report(&sheet);
-    let run = |path, arguments: &[&str], expected| run_program(path, arguments, &file.0, expected);
     let mut works: Vec<Work> = vec![
-        Box::new(|| run(&programs.stations, &[], &expected)),
-        Box::new(|| run(&programs.reference, &["report"], &expected)),
-        Box::new(|| run(Path::new("true"), &[], "")),
+        Box::new(|| run_program(&programs.stations, &[], bytes, &expected)),
+        Box::new(|| run_program(&programs.reference, &["reports"], digits, &expected)),
+        Box::new(|| run_program(Path::new("true"), &[], bytes, "")),
     ];
     alternate(1, 1, &mut works)?;
     let times = alternate(rounds, 1, &mut works)?;

@@ -1,16 +1,19 @@
 //! The reference. It has no call of its own for a check, which is reading and
-//! calculating there; its text is a string that it allocates for each call.
+//! calculating there; the numbers of a line and its text it allocates for each
+//! call.
 
 use crate::side::{Answer, Refused, Side};
-use pokyandi::{ROW_NUMBERS, SHEET_BYTES};
+use pokyandi::{LINE_NUMBERS, ROW_NUMBERS, SHEET_BYTES};
 use reference::curve::Curve;
 use reference::elements::{elements, Elements};
+use reference::line_numbers;
 use reference::refusal::Refusal;
 use reference::report::report;
 use reference::sheet;
 use reference::stations::stations;
 
 pub struct Reference {
+    line: [u32; LINE_NUMBERS],
     bytes: [u8; SHEET_BYTES],
     row: [u64; ROW_NUMBERS],
     text: String,
@@ -20,6 +23,7 @@ pub struct Reference {
 impl Reference {
     pub fn new() -> Reference {
         Reference {
+            line: [0; LINE_NUMBERS],
             bytes: [0; SHEET_BYTES],
             row: [0; ROW_NUMBERS],
             text: String::new(),
@@ -45,9 +49,19 @@ impl From<Refusal> for Refused {
 }
 
 impl Side for Reference {
-    fn rewrite(&mut self, sheet: &[u8], room: usize) -> Answer<&[u8]> {
+    fn read(&mut self, sheet: &[u8]) -> Answer<&[u32]> {
+        let count = line_numbers::read(sheet, &mut self.line)?;
+        Ok(&self.line[..count])
+    }
+
+    fn write(&mut self, line: &[u32]) -> Answer<&[u8]> {
+        let count = line_numbers::write(line, &mut self.bytes)?;
+        Ok(&self.bytes[..count])
+    }
+
+    fn rewrite(&mut self, sheet: &[u8]) -> Answer<&[u8]> {
         let line = sheet::read(sheet)?;
-        let count = sheet::write(&line, &mut self.bytes[..room])?;
+        let count = sheet::write(&line, &mut self.bytes)?;
         Ok(&self.bytes[..count])
     }
 

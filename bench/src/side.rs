@@ -14,8 +14,14 @@ pub type Answer<T> = Result<T, Refused>;
 /// One of the two. It keeps the buffers that its calls fill; they are used again
 /// and not cleared between calls.
 pub trait Side {
-    /// The sheet read, and written into `room` bytes, 706 at most.
-    fn rewrite(&mut self, sheet: &[u8], room: usize) -> Answer<&[u8]>;
+    /// The sheet's line in numbers.
+    fn read(&mut self, sheet: &[u8]) -> Answer<&[u32]>;
+
+    /// The sheet of a line in numbers.
+    fn write(&mut self, line: &[u32]) -> Answer<&[u8]>;
+
+    /// The sheet read and written again.
+    fn rewrite(&mut self, sheet: &[u8]) -> Answer<&[u8]>;
 
     /// The sheet's stations, µm.
     fn stations(&mut self, sheet: &[u8]) -> Answer<&[u64]>;

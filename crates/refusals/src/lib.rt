@@ -27,9 +27,9 @@ pub enum Refusal {
     Radius(u16),
     // 11: the spiral is out of range, or longer than the radius.
     Spiral(u16),
-    // 12: the radius is below the least one for the design speed.
+    // 12: the radius is below the least for design speed and crossfall.
     LeastRadius(u16),
-    // 13: the spiral is below the least one for the design speed.
+    // 13: the spiral is below the least for design speed and radius.
     LeastSpiral(u16),
     // 14: the arc is under 1,000 µm.
     ShortArc(u16),
