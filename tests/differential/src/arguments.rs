@@ -12,7 +12,7 @@ run       calls the static library and the reference with the same N inputs
           lent or not. An input is one of the calls stations, check, rewrite,
           elements, text, read and write with one sheet, curve or line and one
           lent buffer. The first inputs have a name. Prints how often each call
-          gave each answer. With 30000 inputs or more, every refusal that a call
+          gave each answer. With 20000 inputs or more, every refusal that a call
           can give must occur.
           Without options: seed 1, 40000 inputs.
 replay    compares one input of a run again, and prints it.

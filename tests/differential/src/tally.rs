@@ -8,7 +8,7 @@ use reference::line::MOST_CURVES;
 const OUTCOMES: usize = 17;
 
 /// Inputs from which on every refusal must have occurred.
-const ENOUGH: u64 = 30_000;
+const ENOUGH: u64 = 20_000;
 
 /// The counts.
 #[derive(Default)]

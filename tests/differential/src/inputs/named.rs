@@ -1,7 +1,7 @@
 //! The inputs with a name, the same for every seed: document 01's cases, and both
 //! sides of every check at several places, built from the reference's samples.
 
-use crate::input::{Request, Room};
+use crate::input::{Call, Request, Room};
 use reference::curve::Curve;
 use reference::line::{Line, MOST_CURVES};
 use reference::line_numbers::number_count;
@@ -13,6 +13,7 @@ use reference::samples::roads::road;
 use reference::samples::sheet_edges;
 use reference::samples::sheet_fields::sheet_of_any;
 use reference::samples::station_cases::named_sheets;
+use reference::samples::station_sheets::full_length_edges;
 use reference::samples::writer_edges;
 
 /// A request and the room that is lent.
@@ -35,21 +36,17 @@ pub fn named_requests() -> Vec<NamedRequest> {
     .concat()
 }
 
-fn request(sample: &str, claim: Claim, request: Request, room: Room) -> NamedRequest {
-    let name = format!("{}: {sample}", request.call().name());
-    named(name, claim, (request, room))
+/// The request that is made of a sample.
+fn request_of<T>(sample: Named<T>, make: impl FnOnce(T) -> (Request, Room)) -> NamedRequest {
+    let made = sample.map(make);
+    let name = format!("{}: {}", made.sample.0.call().name(), made.name);
+    Named { name, ..made }
 }
 
 /// Every call that takes a sheet, with just the room that it needs.
-fn of_a_sheet(
-    Named {
-        name,
-        claim,
-        sample,
-    }: Named<Vec<u8>>,
-) -> Vec<NamedRequest> {
+fn of_a_sheet(sheet: Named<Vec<u8>>) -> Vec<NamedRequest> {
     Request::OF_A_SHEET
-        .map(|of_sheet| request(&name, claim, of_sheet(sample.clone()), Room::Needed(0)))
+        .map(|of_sheet| request_of(sheet.clone(), |sheet| (of_sheet(sheet), Room::Needed(0))))
         .to_vec()
 }
 
@@ -62,79 +59,61 @@ fn stored_sheets() -> Vec<NamedRequest> {
 }
 
 fn edges_of_the_reader(dice: &mut Dice) -> Vec<NamedRequest> {
-    let edges = sheet_edges::edges(dice).into_iter();
-    edges.flat_map(of_a_sheet).collect()
+    [sheet_edges::edges(dice), full_length_edges(dice)]
+        .concat()
+        .into_iter()
+        .flat_map(of_a_sheet)
+        .collect()
 }
 
-/// Lines that fit a sheet, where the calculator can refuse them: the stations
-/// with the room of the edge; where it is not too small, the other calls too.
+/// Lines that fit a sheet: the stations with the room of the edge; where it is
+/// not too small, the other calls too.
 fn edges_of_the_calculator(dice: &mut Dice) -> Vec<NamedRequest> {
     let mut requests = Vec::new();
-    for Named {
-        name,
-        claim,
-        sample,
-    } in line_edges::edges(dice)
-    {
-        let Some(sheet) = sheet_of_any(&sample.line) else {
+    for edge in line_edges::edges(dice) {
+        let Some(sheet) = sheet_of_any(&edge.sample.line) else {
             continue;
         };
-        let name = format!("line, {name}");
-        let room = Room::Entries(sample.room);
-        let stations = Request::Stations(sheet.clone());
-        requests.push(request(&name, claim, stations, room));
-        if claim != Claim::of(16, 0) {
-            let others = of_a_sheet(named(name, claim, sheet)).into_iter();
-            requests.extend(others.filter(|other| !matches!(other.sample.0, Request::Stations(_))));
+        let line = named(format!("line, {}", edge.name), edge.claim, sheet);
+        let room = Room::Entries(edge.sample.room);
+        requests.push(request_of(line.clone(), |sheet| {
+            (Request::Stations(sheet), room)
+        }));
+        if edge.claim != Claim::of(16, 0) {
+            let calls = of_a_sheet(line).into_iter();
+            requests.extend(calls.filter(|other| other.sample.0.call() != Call::Stations));
         }
     }
     requests
 }
 
 fn curves() -> Vec<NamedRequest> {
-    let curves = [curves::document_cases(), curves::edges()].concat();
-    curves
+    [curves::document_cases(), curves::edges()]
+        .concat()
         .into_iter()
-        .map(
-            |Named {
-                 name,
-                 claim,
-                 sample,
-             }| { request(&name, claim, Request::Elements(sample), Room::Needed(0)) },
-        )
+        .map(|curve| request_of(curve, |curve| (Request::Elements(curve), Room::Needed(0))))
         .collect()
 }
 
 /// Lines by their numbers, those that no sheet can hold among them.
 fn edges_of_the_writer(dice: &mut Dice) -> Vec<NamedRequest> {
-    writer_edges::edges(dice)
-        .into_iter()
-        .map(
-            |Named {
-                 name,
-                 claim,
-                 sample,
-             }| {
-                let line = Request::Write(sample.line.numbers());
-                request(&name, claim, line, Room::Entries(sample.room))
-            },
-        )
-        .collect()
+    let edges = writer_edges::edges(dice).into_iter();
+    let requests = edges.map(|edge| {
+        request_of(edge, |call| {
+            let line = call.line.numbers();
+            (Request::Write(line), Room::Entries(call.room))
+        })
+    });
+    requests.collect()
 }
 
 /// Numbers that are no line's: too few, too many, sides that are none, numbers
 /// wider than their fields.
 fn odd_lines(dice: &mut Dice) -> Vec<NamedRequest> {
-    let lines = [miscounted(dice), too_many_curves(), sides(dice), too_wide()].concat();
-    lines
+    [miscounted(dice), too_many_curves(), sides(dice), too_wide()]
+        .concat()
         .into_iter()
-        .map(
-            |Named {
-                 name,
-                 claim,
-                 sample,
-             }| { request(&name, claim, Request::Write(sample), Room::Needed(0)) },
-        )
+        .map(|line| request_of(line, |line| (Request::Write(line), Room::Needed(0))))
         .collect()
 }
 
@@ -254,7 +233,7 @@ fn too_wide() -> Vec<Named<Vec<u32>>> {
 mod tests {
     use super::*;
     use crate::compare::compare;
-    use crate::input::{Call, Input};
+    use crate::input::Input;
     use crate::side::{Answer, Reference};
     use std::collections::BTreeSet;
 
@@ -279,7 +258,14 @@ mod tests {
             edges_of_the_writer(&mut dice).len(),
             odd_lines(&mut dice).len(),
         ];
-        assert_eq!(counts, [31 * 5, 532 * 5, 1_417, 8 + 469, 165, 93]);
+        // Of the calculator's 324 lines no sheet can hold 26; 7 rooms are too
+        // small.
+        let of_the_calculator = (324 - 26) * 5 - 7 * 4;
+        let of_the_reader = (532 + 32) * 5;
+        assert_eq!(
+            counts,
+            [31 * 5, of_the_reader, of_the_calculator, 8 + 469, 165, 93]
+        );
     }
 
     #[test]
