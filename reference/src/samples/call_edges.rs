@@ -182,10 +182,8 @@ pub fn room_edges(dice: &mut Dice, callee: Callee) -> Vec<Named<Call>> {
         rooms.push(callee.most_room());
         rooms.dedup();
         for room in rooms {
-            let claim = match room < enough {
-                true => Claim::of(16, 0),
-                false => Claim::Accepted,
-            };
+            let number = if room < enough { 16 } else { 0 };
+            let claim = Claim::accepted_or(number, 0);
             let line = exact.line.clone();
             let name = format!("road of {n} curves, room {room}");
             edges.push(named(name, claim, Call { room, line }));

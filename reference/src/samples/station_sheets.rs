@@ -55,10 +55,8 @@ pub fn full_length_edges(dice: &mut Dice) -> Vec<NamedSheet> {
     let mut sheets = Vec::new();
     for n in [0, 1, 63, MOST_CURVES] {
         for length in LENGTHS {
-            let claim = match length == sheet_length(n) {
-                true => Claim::Accepted,
-                false => Claim::of(7, 0),
-            };
+            let number = if length == sheet_length(n) { 0 } else { 7 };
+            let claim = Claim::accepted_or(number, 0);
             for byte in [0x00, 0xFF] {
                 let mut sheet = sheet_of(&road(dice, n));
                 sheet.resize(length, byte);
