@@ -176,16 +176,15 @@ fn curve_edges() -> Vec<Named<Line>> {
 pub fn room_edges(dice: &mut Dice, callee: Callee) -> Vec<Named<Call>> {
     let mut edges = Vec::new();
     for n in [0, 1, 3, MOST_CURVES] {
-        let Call { room, line } = exact_call(callee, road(dice, n));
-        for (room, claim) in [
-            (0, Claim::of(16, 0)),
-            (room - 1, Claim::of(16, 0)),
-            (room, Claim::Accepted),
-            (room + 1, Claim::Accepted),
-            (room + 4, Claim::Accepted),
-            (callee.most_room(), Claim::Accepted),
-        ] {
-            let line = line.clone();
+        let exact = exact_call(callee, road(dice, n));
+        let enough = exact.room;
+        let mut rooms = vec![0, enough - 1, enough, enough + 1, enough + 4];
+        rooms.push(callee.most_room());
+        rooms.dedup();
+        for room in rooms {
+            let number = if room < enough { 16 } else { 0 };
+            let claim = Claim::accepted_or(number, 0);
+            let line = exact.line.clone();
             let name = format!("road of {n} curves, room {room}");
             edges.push(named(name, claim, Call { room, line }));
         }

@@ -33,13 +33,7 @@ pub fn document_cases() -> Vec<Named<Curve>> {
             Curve::new(432_000, 5_000_000, 0),
         ),
     ]
-    .map(|(name, number, curve)| {
-        let claim = match number {
-            0 => Claim::Accepted,
-            _ => Claim::of(number, 0),
-        };
-        named(name, claim, curve)
-    })
+    .map(|(name, number, curve)| named(name, Claim::accepted_or(number, 0), curve))
     .to_vec()
 }
 

@@ -5,6 +5,7 @@ use super::dice::Dice;
 use super::limits::{
     greatest_spiral, least_deflection, least_distance, least_radius, least_spiral,
 };
+use super::sheet_fields::{deflection, distance, radius, spiral, Field, CROSSFALL, SPEED, START};
 use crate::curve::Curve;
 use crate::elements::{GREATEST_DEFLECTION, GREATEST_RADIUS, SMALLEST_RADIUS};
 use crate::line::{Line, GREATEST_DISTANCE, GREATEST_START};
@@ -28,36 +29,47 @@ pub fn put_faults(dice: &mut Dice, callee: Callee, call: &mut Call, faults: &[Re
 fn put_fault(dice: &mut Dice, callee: Callee, call: &mut Call, fault: Refusal) {
     let line = &mut call.line;
     let i = fault.place;
+    let most = |field| most_of(callee, field);
     match fault.number {
         3 => line.n = dice.one_of(&[65, 66, 127, 128, u32::MAX]),
-        4 => line.v = dice.one_of(&[0, 30, 39, 41, 75, 119, 121, 130, u32::MAX]),
-        5 => line.e = dice.one_of(&[0, 1, 13, u32::MAX]),
-        6 => line.start = dice.one_of(&[GREATEST_START + 1, u32::MAX]),
-        8 => line.distances[i] = dice.one_of(&[0, GREATEST_DISTANCE + 1, u32::MAX]),
+        4 => line.v = dice.one_of(&[0, 30, 39, 41, 75, 119, 121, 126, most(SPEED)]),
+        5 => line.e = dice.one_of(&[0, 1, 13, most(CROSSFALL)]),
+        6 => line.start = dice.one_of(&[GREATEST_START + 1, most(START)]),
+        8 => line.distances[i] = dice.one_of(&[0, GREATEST_DISTANCE + 1, most(distance(i))]),
         15 => line.distances[i] = number_below(dice, 1, least_distance(line, i)),
         16 => {
             let room = callee.room_for(line.curve_count());
             call.room = number_below(dice, 0, room as u32) as usize;
         }
-        number => line.curves[i - 1] = faulty_curve(dice, line, i, number),
+        number => line.curves[i - 1] = faulty_curve(dice, callee, line, i, number),
+    }
+}
+
+/// The greatest number that a field is given: the writer takes any, the
+/// calculator those of a sheet.
+fn most_of(callee: Callee, field: Field) -> u32 {
+    match callee {
+        Callee::Calculator => field.most(),
+        Callee::Writer => u32::MAX,
     }
 }
 
 /// Curve i with the fault of refusal 9 to 14.
-fn faulty_curve(dice: &mut Dice, line: &Line, i: usize, number: u8) -> Curve {
+fn faulty_curve(dice: &mut Dice, callee: Callee, line: &Line, i: usize, number: u8) -> Curve {
     let curve = line.curve(i);
     let speed = line.speed().expect("the design speed is one of the nine");
+    let most = |field| most_of(callee, field);
     match number {
         9 => Curve {
-            a: dice.one_of(&[0, GREATEST_DEFLECTION + 1, u32::MAX]),
+            a: dice.one_of(&[0, GREATEST_DEFLECTION + 1, most(deflection(i))]),
             ..curve
         },
         10 => Curve {
-            r: dice.one_of(&[0, SMALLEST_RADIUS - 1, GREATEST_RADIUS + 1, u32::MAX]),
+            r: dice.one_of(&[0, SMALLEST_RADIUS - 1, GREATEST_RADIUS + 1, most(radius(i))]),
             ..curve
         },
         11 => Curve {
-            l: dice.one_of(&[greatest_spiral(curve.r) + 1, u32::MAX]),
+            l: dice.one_of(&[greatest_spiral(curve.r) + 1, most(spiral(i))]),
             ..curve
         },
         12 => small_radius(dice, speed, line.e, curve),

@@ -41,10 +41,7 @@ pub fn edges(dice: &mut Dice) -> Vec<Named<Call>> {
 
 /// A line of one curve; `number` is that of its refusal, 0 where it is accepted.
 fn curve_edge(name: String, v: u32, e: u32, curve: Curve, number: u8) -> Named<Line> {
-    let claim = match number {
-        0 => Claim::Accepted,
-        _ => Claim::of(number, 1),
-    };
+    let claim = Claim::accepted_or(number, 1);
     named(name, claim, long_line(v, e, curve))
 }
 

@@ -7,10 +7,7 @@ use crate::line::Line;
 /// The cases that document 01 gives for the calculator.
 pub fn document_cases() -> Vec<Named<Line>> {
     let curve = |name, number, a, r, l| {
-        let claim = match number {
-            0 => Claim::Accepted,
-            _ => Claim::of(number, 1),
-        };
+        let claim = Claim::accepted_or(number, 1);
         named(name, claim, with_curve(Curve::new(a, r, l)))
     };
     vec![

@@ -24,11 +24,19 @@ pub enum Claim {
 }
 
 impl Claim {
-    /// The claim of refusal `number` at `place`; 0 is [`Claim::InRange`].
+    /// Refusal `number` at `place`; 0 is [`Claim::InRange`].
     pub fn of(number: u8, place: usize) -> Claim {
         match number {
             0 => Claim::InRange,
             _ => Claim::Refused(Refusal { number, place }),
+        }
+    }
+
+    /// Refusal `number` at `place`; 0 is [`Claim::Accepted`].
+    pub fn accepted_or(number: u8, place: usize) -> Claim {
+        match number {
+            0 => Claim::Accepted,
+            _ => Claim::of(number, place),
         }
     }
 }
@@ -79,7 +87,8 @@ mod tests {
             |claim, answer: Result<(), Refusal>| named("", claim, ()).holds(&[8, 9, 12], &answer);
         let answers = [Ok(()), refuse(8, 0), refuse(8, 1), refuse(12, 1)];
         for (claim, expected) in [
-            (Claim::Accepted, [true, false, false, false]),
+            (Claim::accepted_or(0, 0), [true, false, false, false]),
+            (Claim::accepted_or(8, 0), [false, true, false, false]),
             (Claim::of(0, 0), [true, false, false, true]),
             (Claim::of(8, 1), [false, false, true, false]),
             (Claim::of(12, 1), [false, false, false, true]),

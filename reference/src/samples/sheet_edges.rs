@@ -189,14 +189,11 @@ fn fill_edges(dice: &mut Dice) -> Vec<NamedSheet> {
         let sheet = sheet_in_range(dice, n);
         let name = format!("sheet of {n} curves");
         let fill = fill(n);
-        let mut values: Vec<Value> = (0..fill.width).map(|bit| (1 << bit, 7)).collect();
-        values.push((fill.most(), if fill.width == 0 { 0 } else { 7 }));
-        sheets.extend(with_values(
-            &name,
-            &sheet,
-            heading("all fill", fill),
-            &values,
-        ));
+        let bits: Vec<Value> = (0..fill.width).map(|bit| (1 << bit, 7)).collect();
+        sheets.extend(with_values(&name, &sheet, heading("fill", fill), &bits));
+        let all = Claim::of(if fill.width == 0 { 0 } else { 7 }, 0);
+        let filled = fill.with(&sheet, fill.most());
+        sheets.push(named(format!("{name}, all of the fill set"), all, filled));
         let mut other_distance = sheet;
         flip(&mut other_distance, fill.first - 1);
         let name = format!("{name}, last bit of the last distance changed");

@@ -2,10 +2,12 @@
 //! the reader's and the calculator's checks, then random sheets.
 
 use super::dice::Dice;
+use super::named::{named, Claim};
 use super::near_limits::{
     near_least_arc, near_least_radius, near_least_spiral, near_least_straight,
 };
 use super::roads::road;
+use super::sheet_edges::NamedSheet;
 use super::sheet_faults::{cut, flip_any, lengthen};
 use super::sheet_fields::{sheet_of, sheet_of_any};
 use super::sheets::{any_bytes, any_bytes_of_the_edition, any_entries};
@@ -16,6 +18,7 @@ use crate::hexadecimal::MOST_BYTES;
 use crate::line::{Line, MOST_CURVES};
 use crate::refusal::Refusal;
 use crate::report::MOST_READ;
+use crate::sheet::sheet_length;
 
 /// The first `count` sample sheets of the seed's endless list.
 pub fn sample_station_sheets(seed: u64, count: usize) -> impl Iterator<Item = Vec<u8>> {
@@ -39,25 +42,26 @@ fn edges(dice: &mut Dice) -> Vec<Vec<u8>> {
         .collect();
     // The row's lengths make no difference here.
     lines.dedup();
-    let mut sheets: Vec<Vec<u8>> = sheet_edges::edges(dice)
-        .into_iter()
-        .map(|edge| edge.sample)
-        .collect();
+    let without_names = |edges: Vec<NamedSheet>| edges.into_iter().map(|edge| edge.sample);
+    let mut sheets: Vec<Vec<u8>> = without_names(sheet_edges::edges(dice)).collect();
     sheets.extend(lines.iter().filter_map(sheet_of_any));
-    sheets.extend(full_length_edges(dice));
+    sheets.extend(without_names(full_length_edges(dice)));
     sheets
 }
 
 /// Sheets of few curves and of the most, made as long as the program reads, one
 /// byte less and more, and longer.
-fn full_length_edges(dice: &mut Dice) -> Vec<Vec<u8>> {
+pub fn full_length_edges(dice: &mut Dice) -> Vec<NamedSheet> {
     let mut sheets = Vec::new();
     for n in [0, 1, 63, MOST_CURVES] {
         for length in LENGTHS {
+            let number = if length == sheet_length(n) { 0 } else { 7 };
+            let claim = Claim::accepted_or(number, 0);
             for byte in [0x00, 0xFF] {
                 let mut sheet = sheet_of(&road(dice, n));
                 sheet.resize(length, byte);
-                sheets.push(sheet);
+                let name = format!("road of {n} curves, with {byte:02x} to {length} bytes");
+                sheets.push(named(name, claim, sheet));
             }
         }
     }
@@ -218,6 +222,13 @@ mod tests {
     fn most_are_random() {
         let fixed = document_cases().len() + edges(&mut Dice::new(2)).len();
         assert!(LIST.len() >= fixed + 5_000, "{fixed} are not random");
+    }
+
+    #[test]
+    fn full_length_edges_are_answered_as_claimed() {
+        for edge in full_length_edges(&mut Dice::new(1)) {
+            assert!(edge.holds(&[7], &row(&edge.sample)), "{}", edge.name);
+        }
     }
 
     #[test]

@@ -4,20 +4,25 @@ pub const USAGE: &str = "\
 usage: differential run [--seed S] [--count N]
        differential replay --index I [--seed S]
        differential accuracy [--seed S] [--lines N]
+       differential published
        differential --help
 
 run       calls the static library and the reference with the same N inputs
           and compares the answers and every byte or number of the memory,
           lent or not. An input is one of the calls stations, check, rewrite,
-          elements and text with one sheet or curve and one lent buffer. Prints
-          how often each call gave each answer. With 20000 inputs or more,
-          every refusal that a call can give must occur.
+          elements, text, read and write with one sheet, curve or line and one
+          lent buffer. The first inputs have a name. Prints how often each call
+          gave each answer. With 20000 inputs or more, every refusal that a call
+          can give must occur.
           Without options: seed 1, 40000 inputs.
 replay    compares one input of a run again, and prints it.
 accuracy  holds the library's stations and elements of N lines against document
           01's sums in fractions. Prints the largest differences, the shortest
           exact lengths that are accepted and the longest that are refused.
           Without options: seed 1, 3000 lines.
+published holds the library's elements against source document 002's worked
+          example, and those of curves without spiral against document 01's
+          case 11.
 
 The same seed gives the same inputs. Exit status: 0 where all agree and every
 bound holds, 1 where not, 2 for arguments that are not understood.
@@ -29,6 +34,7 @@ pub enum Command {
     Run { seed: u64, count: u64 },
     Replay { seed: u64, index: u64 },
     Accuracy { seed: u64, lines: u64 },
+    Published,
     Help,
 }
 
@@ -54,6 +60,10 @@ pub fn command_of(arguments: &[String]) -> Result<Command, String> {
             let [seed, lines] = numbers(options, [("--seed", Some(1)), ("--lines", Some(3_000))])?;
             let lines = not_zero("--lines", lines)?;
             Ok(Command::Accuracy { seed, lines })
+        }
+        "published" => {
+            let [] = numbers(options, [])?;
+            Ok(Command::Published)
         }
         other => Err(format!("there is no command '{other}'")),
     }
@@ -127,6 +137,7 @@ mod tests {
         assert_eq!(read("replay --index 0"), Ok(replay));
         let accuracy = Command::Accuracy { seed: 1, lines: 60 };
         assert_eq!(read("accuracy --lines 60"), Ok(accuracy));
+        assert_eq!(read("published"), Ok(Command::Published));
         for text in ["--help", "run --help", "walk --help"] {
             assert_eq!(read(text), Ok(Command::Help));
         }
@@ -137,6 +148,10 @@ mod tests {
         assert_eq!(wrong(""), "a command is missing");
         assert_eq!(wrong("walk"), "there is no command 'walk'");
         assert_eq!(wrong("run --lines 5"), "there is no option '--lines' here");
+        assert_eq!(
+            wrong("published --seed 1"),
+            "there is no option '--seed' here"
+        );
         assert_eq!(wrong("run --seed"), "--seed lacks its number");
         assert_eq!(wrong("replay"), "--index is missing");
         assert_eq!(wrong("run --count 0"), "--count must be 1 or more");

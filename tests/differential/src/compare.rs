@@ -15,8 +15,11 @@ pub enum Difference {
     Answer,
     /// An entry of the lent memory, or a guard of it.
     Lent(EntryDifference),
-    /// A byte of the sheet, or a guard of it, that was changed.
-    Sheet(EntryDifference),
+    /// An entry of the given sheet or line, or a guard of it, that was changed.
+    Given(EntryDifference),
+    /// Writing what was read, or reading what was written, does not give the
+    /// sheet or line back.
+    NotBack,
 }
 
 impl fmt::Display for Difference {
@@ -28,11 +31,14 @@ impl fmt::Display for Difference {
                 "entry {} of the lent memory: library {}, reference {}",
                 entry.index, entry.found, entry.expected
             ),
-            Difference::Sheet(byte) => write!(
+            Difference::Given(entry) => write!(
                 f,
-                "byte {} of the sheet: {} before the call, {} after it",
-                byte.index, byte.expected, byte.found
+                "entry {} of the given sheet or line: {} before the call, {} after it",
+                entry.index, entry.expected, entry.found
             ),
+            Difference::NotBack => {
+                write!(f, "the library's reader and writer do not undo each other")
+            }
         }
     }
 }
@@ -51,14 +57,14 @@ pub struct Comparison {
 /// Calls both sides with the input.
 pub fn compare(library: &dyn Side, input: &Input) -> Comparison {
     match &input.request {
-        Request::Stations(sheet) => with_sheet(input, sheet, |sheet| {
+        Request::Stations(sheet) => with_given(input, sheet, |sheet| {
             both(input, library, |side, row| side.stations(sheet, row)).0
         }),
-        Request::Check(sheet) => with_sheet(input, sheet, |sheet| {
+        Request::Check(sheet) => with_given(input, sheet, |sheet| {
             let nothing_lent = |side: &dyn Side, _: &mut [u8]| side.check(sheet);
             both(input, library, nothing_lent).0
         }),
-        Request::Rewrite(sheet) => with_sheet(input, sheet, |sheet| {
+        Request::Rewrite(sheet) => with_given(input, sheet, |sheet| {
             both(input, library, |side, bytes| side.rewrite(sheet, bytes)).0
         }),
         Request::Elements(curve) => {
@@ -67,27 +73,58 @@ pub fn compare(library: &dyn Side, input: &Input) -> Comparison {
             })
             .0
         }
-        Request::Text(sheet) => with_sheet(input, sheet, |sheet| {
+        Request::Text(sheet) => with_given(input, sheet, |sheet| {
             let (comparison, expected) = both(input, library, |side, text| side.text(sheet, text));
             let told = told_by(&expected);
             Comparison { told, ..comparison }
         }),
+        Request::Read(sheet) => with_given(input, sheet, |sheet| {
+            let outcome = both(input, library, |side, line| side.read(sheet, line));
+            undone(outcome, sheet, |line, bytes| library.write(line, bytes))
+        }),
+        Request::Write(line) => with_given(input, line, |line| {
+            let outcome = both(input, library, |side, bytes| side.write(line, bytes));
+            undone(outcome, line, |sheet, numbers| library.read(sheet, numbers))
+        }),
     }
 }
 
-/// Makes a call with a sheet that stands between guards, and sees that it is
-/// unchanged.
-fn with_sheet(input: &Input, sheet: &[u8], call: impl FnOnce(&[u8]) -> Comparison) -> Comparison {
-    let memory = Memory::holding(input.pattern.rotate_left(32), sheet);
+/// Makes a call with a sheet or line that stands between guards, and sees that
+/// it is unchanged.
+fn with_given<T: Entry>(
+    input: &Input,
+    given: &[T],
+    call: impl FnOnce(&[T]) -> Comparison,
+) -> Comparison {
+    let memory = Memory::holding(input.pattern.rotate_left(32), given);
     let before = memory.clone();
     let comparison = call(memory.lent());
-    // The compiler takes a lent sheet as unchanged; here it must look.
+    // The compiler takes what is given as unchanged; here it must look.
     match black_box(&memory).first_difference(&before) {
-        Some(byte) => Comparison {
-            difference: Some(Difference::Sheet(byte)),
+        Some(entry) => Comparison {
+            difference: Some(Difference::Given(entry)),
             ..comparison
         },
         None => comparison,
+    }
+}
+
+/// Sees that the library's `back` makes what is given of the answer again, where
+/// the sides agree and accept it.
+fn undone<T: Entry, G: Clone + Default + PartialEq>(
+    (comparison, expected): (Comparison, Outcome<T>),
+    given: &[G],
+    back: impl FnOnce(&[T], &mut [G]) -> Answer,
+) -> Comparison {
+    let (None, Ok(count)) = (comparison.difference, expected.answer) else {
+        return comparison;
+    };
+    let mut found = vec![G::default(); given.len()];
+    let answer = back(&expected.memory.lent()[..count], &mut found);
+    let difference = (answer != Ok(given.len()) || found != given).then_some(Difference::NotBack);
+    Comparison {
+        difference,
+        ..comparison
     }
 }
 
@@ -139,7 +176,7 @@ fn told_by(outcome: &Outcome<u8>) -> Option<usize> {
 #[cfg(test)]
 mod tests {
     use super::*;
-    use crate::input::Room;
+    use crate::input::{Call, Room};
     use crate::side::Library;
     use crate::spoilt::{Change, Spoilt};
     use reference::line::Line;
@@ -181,20 +218,31 @@ mod tests {
         answer
     }
 
-    fn spoilt(numbers: Change<u64>, bytes: Change<u8>) -> Spoilt {
-        Spoilt { numbers, bytes }
+    /// A refusal whatever the answer is.
+    fn refusing<T>(_: Answer, _: &mut [T]) -> Answer {
+        refuse(9, 1)
+    }
+
+    fn spoilt(numbers: Change<u64>, bytes: Change<u8>, line: Change<u32>) -> Spoilt {
+        Spoilt {
+            numbers,
+            bytes,
+            line,
+        }
     }
 
     /// The pattern's bytes at the places that are spoilt are not 0x5A.
     const PATTERN: u64 = 0x3000_0000_0000_0201;
 
-    /// Case 1's five requests.
+    /// Case 1's requests, one of each call.
     fn requests() -> Vec<Request> {
         let sheet = sheet_of(&Line::case_1());
         let mut requests: Vec<Request> = Request::OF_A_SHEET
             .map(|request| request(sheet.clone()))
             .into();
         requests.push(Request::Elements(Line::case_1().curve(1)));
+        requests.push(Request::Write(Line::case_1().numbers()));
+        assert_eq!(requests.len(), Call::ALL.len());
         requests
     }
 
@@ -235,8 +283,8 @@ mod tests {
     #[test]
     fn wrong_answers_are_found() {
         let answer = Some(Difference::Answer);
-        let wrong_count = spoilt(count, count);
-        let refusals = [spoilt(number, number), spoilt(place, place)];
+        let wrong_count = spoilt(count, count, count);
+        let refusals = [spoilt(number, number, number), spoilt(place, place, place)];
         for request in requests() {
             assert_eq!(difference(&wrong_count, &request, Room::Needed(0)), answer);
         }
@@ -254,9 +302,39 @@ mod tests {
         for request in lending_requests() {
             let needed = request.needed() as isize;
             let found = |library, more| index(difference(&library, &request, Room::Needed(more)));
-            assert_eq!(found(spoilt(content, content), 0), Some(needed - 1));
-            assert_eq!(found(spoilt(remainder, remainder), 1), Some(needed));
-            assert_eq!(found(spoilt(refused, refused), -1), Some(0));
+            assert_eq!(
+                found(spoilt(content, content, content), 0),
+                Some(needed - 1)
+            );
+            assert_eq!(
+                found(spoilt(remainder, remainder, remainder), 1),
+                Some(needed)
+            );
+            assert_eq!(found(spoilt(refused, refused, refused), -1), Some(0));
+        }
+    }
+
+    /// Each call is as it should be, but the one that undoes it is not.
+    #[test]
+    fn reader_and_writer_that_do_not_undo_each_other_are_found() {
+        let write = Request::Write(Line::case_1().numbers());
+        let read = Request::Read(sheet_of(&Line::case_1()));
+        let not_back = Some(Difference::NotBack);
+        for wrong_reader in [content, count, refusing] {
+            let library = Spoilt {
+                line: wrong_reader,
+                ..Spoilt::NOT
+            };
+            assert_eq!(difference(&library, &write, Room::Needed(0)), not_back);
+            assert_eq!(difference(&library, &write, Room::Needed(-1)), None);
+        }
+        for wrong_writer in [content, count, refusing] {
+            let library = Spoilt {
+                bytes: wrong_writer,
+                ..Spoilt::NOT
+            };
+            assert_eq!(difference(&library, &read, Room::Needed(0)), not_back);
+            assert_eq!(difference(&library, &read, Room::Needed(-1)), None);
         }
     }
 

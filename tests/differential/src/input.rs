@@ -1,8 +1,9 @@
-//! One input: a call, its sheet or curve, and the room that is lent.
+//! One input: a call, its sheet, curve or line, and the room that is lent.
 
 use crate::side::text_of;
 use reference::curve::Curve;
 use reference::line::MOST_CURVES;
+use reference::line_numbers::number_count;
 use reference::samples::sheet_fields::COUNT;
 use reference::sheet::sheet_length;
 
@@ -14,15 +15,19 @@ pub enum Call {
     Rewrite,
     Elements,
     Text,
+    Read,
+    Write,
 }
 
 impl Call {
-    pub const ALL: [Call; 5] = [
+    pub const ALL: [Call; 7] = [
         Call::Stations,
         Call::Check,
         Call::Rewrite,
         Call::Elements,
         Call::Text,
+        Call::Read,
+        Call::Write,
     ];
 
     pub fn name(self) -> &'static str {
@@ -32,6 +37,8 @@ impl Call {
             Call::Rewrite => "rewrite",
             Call::Elements => "elements",
             Call::Text => "text",
+            Call::Read => "read",
+            Call::Write => "write",
         }
     }
 
@@ -43,22 +50,25 @@ impl Call {
             Call::Rewrite => 740,
             Call::Elements => 12,
             Call::Text => 5_600,
+            Call::Read => 340,
+            Call::Write => 740,
         }
     }
 
     /// The refusals that the call can give.
-    pub fn refusals(self) -> Vec<usize> {
+    pub fn refusals(self) -> Vec<u8> {
         match self {
             Call::Stations => (1..=16).collect(),
             Call::Check => (1..=15).collect(),
-            Call::Rewrite => (1..=11).chain([16]).collect(),
+            Call::Rewrite | Call::Read => (1..=11).chain([16]).collect(),
             Call::Elements => vec![9, 10, 11, 14, 16],
             Call::Text => vec![16],
+            Call::Write => vec![3, 4, 5, 6, 8, 9, 10, 11, 16],
         }
     }
 }
 
-/// A call with its sheet or curve.
+/// A call with its sheet, its curve or the numbers of its line.
 #[derive(Clone, Debug, PartialEq, Eq)]
 pub enum Request {
     Stations(Vec<u8>),
@@ -66,15 +76,18 @@ pub enum Request {
     Rewrite(Vec<u8>),
     Elements(Curve),
     Text(Vec<u8>),
+    Read(Vec<u8>),
+    Write(Vec<u32>),
 }
 
 impl Request {
     /// The requests of a sheet.
-    pub const OF_A_SHEET: [fn(Vec<u8>) -> Request; 4] = [
+    pub const OF_A_SHEET: [fn(Vec<u8>) -> Request; 5] = [
         Request::Stations,
         Request::Check,
         Request::Rewrite,
         Request::Text,
+        Request::Read,
     ];
 
     pub fn call(&self) -> Call {
@@ -84,29 +97,36 @@ impl Request {
             Request::Rewrite(_) => Call::Rewrite,
             Request::Elements(_) => Call::Elements,
             Request::Text(_) => Call::Text,
+            Request::Read(_) => Call::Read,
+            Request::Write(_) => Call::Write,
         }
     }
 
-    /// The sheet; nothing where there is a curve.
-    pub fn sheet(&self) -> Option<&[u8]> {
+    /// How many curves the sheet or line says that it has, at most 64; 0 where
+    /// it does not say it.
+    pub fn curves(&self) -> usize {
         match self {
-            Request::Elements(_) => None,
+            Request::Elements(_) => 0,
             Request::Stations(sheet)
             | Request::Check(sheet)
             | Request::Rewrite(sheet)
-            | Request::Text(sheet) => Some(sheet),
+            | Request::Text(sheet)
+            | Request::Read(sheet) => curves_of(sheet),
+            Request::Write(line) => line.first().map_or(0, |n| at_most_64(*n)),
         }
     }
 
-    /// How many entries an accepted answer has; for a faulty sheet, those of one
-    /// with as many curves.
+    /// How many entries an accepted answer has; for a faulty sheet or line, those
+    /// of one with as many curves.
     pub fn needed(&self) -> usize {
+        let n = self.curves();
         match self {
-            Request::Stations(sheet) => 4 * curves_of(sheet) + 1,
+            Request::Stations(_) => 4 * n + 1,
             Request::Check(_) => 0,
-            Request::Rewrite(sheet) => sheet_length(curves_of(sheet)),
+            Request::Rewrite(_) | Request::Write(_) => sheet_length(n),
             Request::Elements(_) => pokyandi::ELEMENT_NUMBERS,
             Request::Text(sheet) => text_of(sheet).len(),
+            Request::Read(_) => number_count(n),
         }
     }
 }
@@ -115,9 +135,13 @@ impl Request {
 /// to say it.
 pub fn curves_of(sheet: &[u8]) -> usize {
     match sheet {
-        [_, _, ..] => (COUNT.value(sheet) as usize).min(MOST_CURVES),
+        [_, _, ..] => at_most_64(COUNT.value(sheet)),
         _ => 0,
     }
+}
+
+fn at_most_64(n: u32) -> usize {
+    (n as usize).min(MOST_CURVES)
 }
 
 /// How many entries are lent.
@@ -159,17 +183,26 @@ mod tests {
         let sheet = sheet_of(&Line::case_1());
         let requests = Request::OF_A_SHEET.map(|request| request(sheet.clone()));
         let needs = requests.map(|request| request.needed());
-        assert_eq!(needs, [5, 0, 21, 20 + 4 * 16 + 17]);
+        assert_eq!(needs, [5, 0, 21, 20 + 4 * 16 + 17, 10]);
+        let line = Request::Write(Line::case_1().numbers());
+        assert_eq!(line.needed(), 21);
         let curve = Request::Elements(Line::case_1().curve(1));
         assert_eq!(curve.needed(), 6);
     }
 
     #[test]
-    fn needs_of_faulty_sheets() {
+    fn needs_of_faulty_sheets_and_lines() {
         assert_eq!(Request::Stations(vec![]).needed(), 1);
         assert_eq!(Request::Stations(vec![0xFF; 7]).needed(), 257);
         assert_eq!(Request::Rewrite(vec![0xFF; 7]).needed(), 706);
         assert_eq!(Request::Text(vec![]).needed(), "REFUSED 1 0\n".len());
+        assert_eq!(Request::Read(vec![]).needed(), 5);
+        assert_eq!(
+            Request::Read(vec![0xFF; 7]).needed(),
+            pokyandi::LINE_NUMBERS
+        );
+        assert_eq!(Request::Write(vec![]).needed(), 10);
+        assert_eq!(Request::Write(vec![u32::MAX]).needed(), 706);
     }
 
     #[test]

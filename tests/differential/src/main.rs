@@ -1,6 +1,7 @@
 //! Holds the proved static library against the separately written reference: the
-//! same inputs for both, and all that they answer and write compared; and its
-//! stations and elements against document 01's sums in fractions.
+//! same inputs for both, and all that they answer and write compared; its
+//! stations and elements against document 01's sums in fractions, and those of a
+//! published example.
 
 mod accuracy;
 mod arguments;
@@ -9,6 +10,7 @@ mod input;
 mod inputs;
 mod memory;
 mod progress;
+mod published;
 mod run;
 mod side;
 #[cfg(test)]
@@ -35,7 +37,10 @@ fn main() -> ExitCode {
             let (agree, report) = run::replay(&Library, seed, index);
             print(agree, &report)
         }
-        Ok(Command::Accuracy { seed, lines }) => accuracy(seed, lines),
+        Ok(Command::Accuracy { seed, lines }) => {
+            print_checked(accuracy::watch(&Library, seed, lines))
+        }
+        Ok(Command::Published) => print_checked(published::check(&Library)),
         Err(message) => {
             eprint!("differential: {message}\n\n{USAGE}");
             ExitCode::from(NOT_UNDERSTOOD)
@@ -57,9 +62,10 @@ fn run(seed: u64, count: u64) -> ExitCode {
     print(missing.is_empty(), &(text.join("\n") + "\n"))
 }
 
-fn accuracy(seed: u64, lines: u64) -> ExitCode {
-    match accuracy::watch(&Library, seed, lines) {
-        Ok(table) => print(true, &table),
+/// Prints what was found, or what is wrong.
+fn print_checked(found: Result<String, String>) -> ExitCode {
+    match found {
+        Ok(text) => print(true, &text),
         Err(report) => print(false, &report),
     }
 }

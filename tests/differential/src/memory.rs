@@ -16,6 +16,13 @@ impl Entry for u8 {
     }
 }
 
+impl Entry for u32 {
+    fn of_pattern(pattern: u64, i: usize) -> u32 {
+        const STEP: u32 = 0x9E37_79B9;
+        (pattern as u32).wrapping_add(STEP.wrapping_mul(i as u32))
+    }
+}
+
 impl Entry for u64 {
     fn of_pattern(pattern: u64, i: usize) -> u64 {
         const STEP: u64 = 0x9E37_79B9_7F4A_7C15;
@@ -99,6 +106,8 @@ mod tests {
         for pattern in [0, 1, 0x0102_0304_0506_0708, u64::MAX] {
             let bytes = Memory::<u8>::new(pattern, 300, 300);
             assert!(bytes.entries.windows(2).all(|pair| pair[0] != pair[1]));
+            let line = Memory::<u32>::new(pattern, 300, 300);
+            assert!(line.entries.windows(2).all(|pair| pair[0] != pair[1]));
             let numbers = Memory::<u64>::new(pattern, 300, 300);
             assert!(numbers.entries.windows(2).all(|pair| pair[0] != pair[1]));
         }

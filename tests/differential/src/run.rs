@@ -23,7 +23,7 @@ pub fn run(library: &dyn Side, seed: u64, count: u64) -> Result<Tally, String> {
             Some(comparison) if comparison.difference.is_none() => tally.add(&input, comparison),
             _ => {
                 progress.end();
-                return Err(report(seed, index, &input, &result));
+                return Err(report(&inputs, index, &input, &result));
             }
         }
         progress.show(index + 1);
@@ -34,7 +34,8 @@ pub fn run(library: &dyn Side, seed: u64, count: u64) -> Result<Tally, String> {
 
 /// Compares one input of the seed. Gives whether the sides agree, and the report.
 pub fn replay(library: &dyn Side, seed: u64, index: u64) -> (bool, String) {
-    let input = Inputs::of(seed).input(index);
+    let inputs = Inputs::of(seed);
+    let input = inputs.input(index);
     let result = compare_caught(library, &input);
     let agree = matches!(
         &result,
@@ -43,7 +44,7 @@ pub fn replay(library: &dyn Side, seed: u64, index: u64) -> (bool, String) {
             ..
         })
     );
-    (agree, report(seed, index, &input, &result))
+    (agree, report(&inputs, index, &input, &result))
 }
 
 /// The comparison; nothing where a side panicked, as on an answer that the
@@ -53,12 +54,10 @@ fn compare_caught(library: &dyn Side, input: &Input) -> Option<Comparison> {
 }
 
 /// An input and what came of it.
-fn report(seed: u64, index: u64, input: &Input, result: &Option<Comparison>) -> String {
-    let mut rows = vec![
-        row("seed", seed),
-        row("index", index),
-        row("call", input.request.call().name()),
-    ];
+fn report(inputs: &Inputs, index: u64, input: &Input, result: &Option<Comparison>) -> String {
+    let mut rows = vec![row("seed", inputs.seed), row("index", index)];
+    rows.extend(inputs.name(index).map(|name| row("name", name)));
+    rows.push(row("call", input.request.call().name()));
     rows.extend(request_rows(&input.request));
     rows.push(row("room", input.room_entries()));
     match result {
@@ -68,14 +67,20 @@ fn report(seed: u64, index: u64, input: &Input, result: &Option<Comparison>) -> 
     rows.concat()
 }
 
-/// The curve, or the sheet and what the reference reads in it.
+/// The curve, the numbers of the line, or the sheet and what the reference reads
+/// in it.
 fn request_rows(request: &Request) -> Vec<String> {
     match request {
         Request::Elements(curve) => vec![row("curve A R L", curve)],
         Request::Stations(sheet)
         | Request::Check(sheet)
         | Request::Rewrite(sheet)
-        | Request::Text(sheet) => sheet_rows(sheet),
+        | Request::Text(sheet)
+        | Request::Read(sheet) => sheet_rows(sheet),
+        Request::Write(line) => {
+            let numbers: Vec<String> = line.iter().map(u32::to_string).collect();
+            vec![row("line", numbers.join(" "))]
+        }
     }
 }
 
@@ -114,8 +119,10 @@ pub fn row(name: &str, value: impl ToString) -> String {
 #[cfg(test)]
 mod tests {
     use super::*;
+    use crate::input::Room;
     use crate::side::Library;
     use crate::spoilt::Spoilt;
+    use reference::refusal::refuse;
 
     #[test]
     fn library_agrees_on_some_inputs() {
@@ -125,16 +132,18 @@ mod tests {
         assert!(agree && report.contains("difference   none\n"), "{report}");
     }
 
-    /// Inputs 0 to 3 are the stations, the check, the rewriting and the text of
-    /// case 1.
+    /// The first inputs are the calls of case 1's sheet, the second of them the
+    /// check.
     #[test]
     fn first_difference_is_reported_and_replayed() {
         let library = Spoilt {
-            numbers: |answer, _| answer,
             bytes: |answer, _| answer.map(|count| count + 1),
+            ..Spoilt::NOT
         };
         let found = run(&library, 1, 10).err().unwrap();
-        assert!(found.starts_with("seed         1\nindex        1\ncall         check\n"));
+        let name = "name         check: case-01\n";
+        let start = format!("seed         1\nindex        1\n{name}call         check\n");
+        assert!(found.starts_with(&start), "{found}");
         let answers = "library      count 6\nreference    count 5\n";
         let end = format!("room         0\n{answers}difference   the answers\n");
         assert!(found.ends_with(&end), "{found}");
@@ -142,10 +151,29 @@ mod tests {
     }
 
     #[test]
+    fn faulty_writer_is_reported_with_its_line() {
+        let library = Spoilt {
+            line: |_, _| refuse(8, 0),
+            ..Spoilt::NOT
+        };
+        let inputs = Inputs::of(1);
+        let input = Input {
+            request: Request::Write(vec![0, 70, 8, 0, 500_000]),
+            room: Room::Needed(0),
+            pattern: 0,
+        };
+        let result = compare_caught(&library, &input);
+        let found = report(&inputs, u64::MAX, &input, &result);
+        assert!(found.contains("call         write\nline         0 70 8 0 500000\n"));
+        assert!(found.ends_with("do not undo each other\n"), "{found}");
+        assert!(!found.contains("\nname "), "{found}");
+    }
+
+    #[test]
     fn panic_is_reported() {
         let library = Spoilt {
-            numbers: |answer, _| answer,
             bytes: |_, _| panic!("a test"),
+            ..Spoilt::NOT
         };
         let found = run(&library, 1, 10).err().unwrap();
         assert!(found.contains("\nindex        1\n"), "{found}");

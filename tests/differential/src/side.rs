@@ -2,7 +2,9 @@
 
 use reference::curve::Curve;
 use reference::elements::{elements, Elements};
-use reference::refusal::{refuse, Refusal};
+use reference::lent::fill;
+use reference::line_numbers;
+use reference::refusal::Refusal;
 use reference::report::report;
 use reference::sheet;
 use reference::stations::stations;
@@ -10,13 +12,15 @@ use reference::stations::stations;
 /// The count of entries that a call wrote, or its refusal.
 pub type Answer = Result<usize, Refusal>;
 
-/// The five calls of `include/pokyandi.h`.
+/// The calls of `include/pokyandi.h` that take a sheet, a curve or a line.
 pub trait Side {
     fn stations(&self, sheet: &[u8], row: &mut [u64]) -> Answer;
     fn check(&self, sheet: &[u8]) -> Answer;
     fn rewrite(&self, sheet: &[u8], bytes: &mut [u8]) -> Answer;
     fn elements(&self, curve: Curve, numbers: &mut [u64]) -> Answer;
     fn text(&self, sheet: &[u8], text: &mut [u8]) -> Answer;
+    fn read(&self, sheet: &[u8], line: &mut [u32]) -> Answer;
+    fn write(&self, line: &[u32], bytes: &mut [u8]) -> Answer;
 }
 
 /// The static library, called by way of its Rust crate.
@@ -42,12 +46,20 @@ impl Side for Library {
     fn text(&self, sheet: &[u8], text: &mut [u8]) -> Answer {
         answer_of(pokyandi::text(sheet, text))
     }
+
+    fn read(&self, sheet: &[u8], line: &mut [u32]) -> Answer {
+        answer_of(pokyandi::read(sheet, line))
+    }
+
+    fn write(&self, line: &[u32], bytes: &mut [u8]) -> Answer {
+        answer_of(pokyandi::write(line, bytes))
+    }
 }
 
 /// An answer of the library's crate as one of the reference.
 fn answer_of(answer: Result<usize, pokyandi::Refusal>) -> Answer {
     answer.map_err(|pokyandi::Refusal { reason, place }| Refusal {
-        number: reason.number() as u8,
+        number: u8::try_from(reason.number()).expect("a refusal has a small number"),
         place: place as usize,
     })
 }
@@ -73,11 +85,19 @@ impl Side for Reference {
         let found = [x, y, k, p, d, tt].map(|length| {
             u64::try_from(length).expect("no element of an accepted curve is below zero")
         });
-        fill(&found, numbers)
+        fill(numbers, &found)
     }
 
     fn text(&self, sheet: &[u8], text: &mut [u8]) -> Answer {
-        fill(text_of(sheet).as_bytes(), text)
+        fill(text, text_of(sheet).as_bytes())
+    }
+
+    fn read(&self, sheet: &[u8], line: &mut [u32]) -> Answer {
+        line_numbers::read(sheet, line)
+    }
+
+    fn write(&self, line: &[u32], bytes: &mut [u8]) -> Answer {
+        line_numbers::write(line, bytes)
     }
 }
 
@@ -90,19 +110,11 @@ pub fn text_of(sheet: &[u8]) -> String {
     }
 }
 
-/// Writes the content at the front of the lent entries, or refuses 16.
-fn fill<T: Copy>(content: &[T], entries: &mut [T]) -> Answer {
-    let Some(front) = entries.get_mut(..content.len()) else {
-        return refuse(16, 0);
-    };
-    front.copy_from_slice(content);
-    Ok(content.len())
-}
-
 #[cfg(test)]
 mod tests {
     use super::*;
     use reference::line::Line;
+    use reference::refusal::refuse;
     use reference::samples::dice::Dice;
     use reference::samples::roads::road;
     use reference::samples::sheet_fields::{sheet_of, COUNT, CROSSFALL, EDITION, SPEED, START};
@@ -150,6 +162,20 @@ mod tests {
         assert!(text[..length].ends_with(b"END 0 879.659911\n"));
         assert_eq!(text[length], 7);
         assert_eq!(side.text(&sheet, &mut text[..length - 1]), refuse(16, 0));
+
+        let line = [1, 70, 8, 0, 500_000, 0, 177_764, 350_000, 40_000, 400_000];
+        let mut numbers = [7; 11];
+        assert_eq!(side.read(&sheet, &mut numbers), Ok(10));
+        assert_eq!(numbers[..10], line);
+        assert_eq!(numbers[10], 7);
+        assert_eq!(side.read(&sheet, &mut numbers[..9]), refuse(16, 0));
+
+        let mut bytes = [7; 22];
+        assert_eq!(side.write(&line, &mut bytes), Ok(21));
+        assert_eq!(bytes[..21], sheet);
+        assert_eq!(bytes[21], 7);
+        assert_eq!(side.write(&line, &mut bytes[..20]), refuse(16, 0));
+        assert_eq!(side.write(&line[..9], &mut bytes), refuse(3, 0));
     }
 
     #[test]

@@ -8,10 +8,21 @@ use reference::curve::Curve;
 pub type Change<T> = fn(Answer, &mut [T]) -> Answer;
 
 pub struct Spoilt {
-    /// Of calls that are lent numbers.
+    /// Of calls that are lent a row or the numbers of elements.
     pub numbers: Change<u64>,
     /// Of calls that are lent bytes, and of `check`, which is lent nothing.
     pub bytes: Change<u8>,
+    /// Of `read`, which is lent the numbers of a line.
+    pub line: Change<u32>,
+}
+
+impl Spoilt {
+    /// Nothing is changed.
+    pub const NOT: Spoilt = Spoilt {
+        numbers: |answer, _| answer,
+        bytes: |answer, _| answer,
+        line: |answer, _| answer,
+    };
 }
 
 impl Side for Spoilt {
@@ -33,5 +44,13 @@ impl Side for Spoilt {
 
     fn text(&self, sheet: &[u8], text: &mut [u8]) -> Answer {
         (self.bytes)(Reference.text(sheet, text), text)
+    }
+
+    fn read(&self, sheet: &[u8], line: &mut [u32]) -> Answer {
+        (self.line)(Reference.read(sheet, line), line)
+    }
+
+    fn write(&self, line: &[u32], bytes: &mut [u8]) -> Answer {
+        (self.bytes)(Reference.write(line, bytes), bytes)
     }
 }

@@ -1,7 +1,7 @@
 //! How often each call gave each answer.
 
 use crate::compare::Comparison;
-use crate::input::{curves_of, Call, Input};
+use crate::input::{Call, Input};
 use reference::line::MOST_CURVES;
 
 /// Accepted, and the refusals 1 to 16.
@@ -33,8 +33,8 @@ impl Tally {
         if let Some(told) = comparison.told {
             self.told[told] += 1;
         }
-        let curves = input.request.sheet().map_or(0, curves_of);
-        if outcome == 0 && comparison.told.unwrap_or(0) == 0 && curves == MOST_CURVES {
+        let full = input.request.curves() == MOST_CURVES;
+        if outcome == 0 && comparison.told.unwrap_or(0) == 0 && full {
             self.full[call] += 1;
         }
     }
@@ -52,10 +52,9 @@ impl Tally {
         }
         for (call, counts) in Call::ALL.into_iter().zip(&self.answered) {
             let name = call.name();
-            for outcome in [0].into_iter().chain(call.refusals()) {
-                if counts[outcome] == 0 {
-                    missing.push(format!("{name} {}", outcome_name(outcome)));
-                }
+            let possible = (0..OUTCOMES).filter(|outcome| can_give(call, *outcome));
+            for outcome in possible.filter(|outcome| counts[*outcome] == 0) {
+                missing.push(format!("{name} {}", outcome_name(outcome)));
             }
         }
         for told in (0..=15).filter(|told| self.told[*told] == 0) {
@@ -85,14 +84,20 @@ impl Tally {
     fn counts(&self, outcome: usize) -> Vec<String> {
         let calls = Call::ALL.into_iter().zip(&self.answered);
         let mut counts: Vec<String> = calls
-            .map(|(call, counts)| {
-                let possible = outcome == 0 || call.refusals().contains(&outcome);
-                column(possible, counts[outcome])
-            })
+            .map(|(call, counts)| column(can_give(call, outcome), counts[outcome]))
             .collect();
         counts.push(column(outcome != 16, self.told[outcome]));
         counts
     }
+}
+
+/// Whether the call can be accepted (0) or refused with this number.
+fn can_give(call: Call, outcome: usize) -> bool {
+    outcome == 0
+        || call
+            .refusals()
+            .into_iter()
+            .any(|number| usize::from(number) == outcome)
 }
 
 /// A count, or a dash where there is none and can be none.
@@ -161,32 +166,46 @@ mod tests {
         );
         add(&mut tally, Request::Text(full.clone()), Ok(5_000), Some(0));
         add(&mut tally, Request::Text(full), Ok(13), Some(8));
-        assert_eq!(columns(&tally, "accepted "), ["1", "0", "0", "0", "2", "1"]);
-        assert_eq!(columns(&tally, "accepted, 64"), ["1", "0", "0", "-", "1"]);
-        assert_eq!(columns(&tally, "refused 8"), ["0", "0", "0", "-", "-", "1"]);
-        assert_eq!(
-            columns(&tally, "refused 16"),
-            ["1", "-", "0", "0", "0", "-"]
-        );
-        assert_eq!(columns(&tally, "all"), ["2", "0", "0", "0", "2", "2"]);
-        assert_eq!(tally.total(), 4);
+        let mut line = vec![1; 325];
+        line[0] = 64;
+        add(&mut tally, Request::Write(line.clone()), Ok(706), None);
+        add(&mut tally, Request::Write(line), refuse(8, 3), None);
+        for (name, expected) in [
+            ("accepted ", "1 0 0 0 2 0 1 1"),
+            ("accepted, 64", "1 0 0 - 1 0 1"),
+            ("refused 8", "0 0 0 - - 0 1 1"),
+            ("refused 7", "0 0 0 - - 0 - 0"),
+            ("refused 16", "1 - 0 0 0 0 0 -"),
+            ("all", "2 0 0 0 2 0 2 2"),
+        ] {
+            assert_eq!(columns(&tally, name).join(" "), expected);
+        }
+        assert_eq!(tally.total(), 6);
     }
 
     #[test]
     fn missing_answers_of_many_inputs() {
         let mut tally = Tally {
-            answered: [[1_000; OUTCOMES]; 5],
-            full: [0; 5],
+            answered: [[1_000; OUTCOMES]; Call::ALL.len()],
+            full: [0; Call::ALL.len()],
             told: [1_000; OUTCOMES],
         };
         assert!(tally.missing().is_empty());
         tally.answered[Call::Elements as usize][14] = 0;
         tally.answered[Call::Text as usize][5] = 0;
+        tally.answered[Call::Write as usize][7] = 0;
+        tally.answered[Call::Write as usize][3] = 0;
+        tally.answered[Call::Read as usize][0] = 0;
         tally.told[3] = 0;
         tally.told[16] = 0;
         assert_eq!(
             tally.missing(),
-            ["elements refused 14", "text telling refused 3"]
+            [
+                "elements refused 14",
+                "read accepted",
+                "write refused 3",
+                "text telling refused 3"
+            ]
         );
         assert!(Tally::default().missing().is_empty());
     }

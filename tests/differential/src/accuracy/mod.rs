@@ -70,7 +70,7 @@ mod tests {
                     .for_each(|number| *number += 1_401);
                 answer
             },
-            bytes: |answer, _| answer,
+            ..Spoilt::NOT
         };
         let report = watch(&library, 1, 8).unwrap_err();
         assert!(report.starts_with("broken       "), "{report}");
@@ -81,7 +81,7 @@ mod tests {
     fn library_that_refuses_every_line_is_reported() {
         let library = Spoilt {
             numbers: |_, _| refuse(12, 1),
-            bytes: |answer, _| answer,
+            ..Spoilt::NOT
         };
         let report = watch(&library, 1, 8).unwrap_err();
         assert!(report.starts_with("broken       REFUSED 12 1 "), "{report}");

@@ -3,6 +3,7 @@
 use super::sheets::curve_at_ends;
 use reference::curve::Curve;
 use reference::elements::{GREATEST_DEFLECTION, GREATEST_RADIUS, GREATEST_SPIRAL, SMALLEST_RADIUS};
+use reference::samples::curves::random_curve;
 use reference::samples::dice::Dice;
 use reference::samples::limits::{least_deflection, least_radius_of_arc};
 use reference::samples::ranges::line_in_range;
@@ -11,10 +12,11 @@ use reference::samples::roads::any_number;
 /// Any curve.
 pub fn any_curve(dice: &mut Dice) -> Curve {
     match dice.between(0, 9) {
-        0..=2 => curve_in_range(dice),
-        3..=5 => near_least_arc(dice),
-        6 => curve_at_ends(dice),
-        7..=8 => curve_of_edges(dice),
+        0..=1 => curve_in_range(dice),
+        2..=3 => near_least_arc(dice),
+        4 => curve_at_ends(dice),
+        5..=6 => curve_of_edges(dice),
+        7..=8 => random_curve(dice),
         _ => Curve::new(any_number(dice), any_number(dice), any_number(dice)),
     }
 }

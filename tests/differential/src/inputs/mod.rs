@@ -1,34 +1,28 @@
-//! The inputs of a seed, in an endless list: the reference's sample sheets, each
-//! with every call, and its sample curves; some requests with every size of
-//! buffer; then random inputs. Every input follows from the seed and its index
-//! alone.
+//! The inputs of a seed, in an endless list: those with a name; some requests
+//! with every size of buffer; then random inputs. Every input follows from the
+//! seed and its index alone.
 
 mod curves;
 mod damage;
+mod lines;
+mod named;
 pub mod near_limits;
 mod sheets;
 
 use crate::input::{Input, Request, Room};
 use curves::any_curve;
-use reference::curve::Curve;
+use lines::any_line;
+use named::{named_requests, NamedRequest};
 use reference::line::{Line, MOST_CURVES};
-use reference::samples::curves::sample_curves;
 use reference::samples::dice::Dice;
 use reference::samples::roads::road;
 use reference::samples::sheet_fields::sheet_of;
-use reference::samples::station_sheets::sample_station_sheets;
 use sheets::any_sheet;
-
-/// Sample sheets of the list: the reference's cases and edges, and random ones.
-const SHEETS: usize = 2_000;
-/// Sample curves of the list: the same.
-const CURVES: usize = 1_000;
 
 /// The inputs of a seed.
 pub struct Inputs {
-    seed: u64,
-    sheets: Vec<Vec<u8>>,
-    curves: Vec<Curve>,
+    pub seed: u64,
+    named: Vec<NamedRequest>,
     /// Requests that are made with every size of buffer, from none to the most.
     sized: Vec<Request>,
 }
@@ -37,8 +31,7 @@ impl Inputs {
     pub fn of(seed: u64) -> Inputs {
         Inputs {
             seed,
-            sheets: sample_station_sheets(seed, SHEETS).collect(),
-            curves: sample_curves(seed, CURVES).collect(),
+            named: named_requests(),
             sized: sized_requests(seed),
         }
     }
@@ -46,7 +39,11 @@ impl Inputs {
     /// The input with this index.
     pub fn input(&self, index: u64) -> Input {
         let mut dice = dice_of(self.seed, index);
-        let (request, room) = self.request(&mut dice, index);
+        let (request, room) = self
+            .named_request(index)
+            .map(|named| named.sample.clone())
+            .or_else(|| self.sized_request(index))
+            .unwrap_or_else(|| any_request_and_room(&mut dice));
         let pattern = any_pattern(&mut dice);
         Input {
             request,
@@ -55,38 +52,23 @@ impl Inputs {
         }
     }
 
-    fn request(&self, dice: &mut Dice, index: u64) -> (Request, Room) {
-        if let Some((request, room)) = self.sized_request(index) {
-            return (request.clone(), Room::Entries(room));
-        }
-        let request = self
-            .listed_request(index)
-            .unwrap_or_else(|| any_request(dice));
-        let room = any_room(dice, request.call().most_room());
-        (request, room)
+    /// The name of the input with this index, if it has one.
+    pub fn name(&self, index: u64) -> Option<&str> {
+        self.named_request(index).map(|named| named.name.as_str())
     }
 
-    /// The request with this index if it is one of the samples.
-    fn listed_request(&self, index: u64) -> Option<Request> {
-        let index = usize::try_from(index).ok()?;
-        let calls = Request::OF_A_SHEET;
-        if let Some(sheet) = self.sheets.get(index / calls.len()) {
-            let request = calls[index % calls.len()];
-            return Some(request(sheet.clone()));
-        }
-        let curve = self.curves.get(index - calls.len() * self.sheets.len())?;
-        Some(Request::Elements(*curve))
+    fn named_request(&self, index: u64) -> Option<&NamedRequest> {
+        self.named.get(usize::try_from(index).ok()?)
     }
 
     /// The request and the size of the buffer with this index, if it is one of
-    /// those that follow the samples.
-    fn sized_request(&self, index: u64) -> Option<(&Request, usize)> {
-        let samples = Request::OF_A_SHEET.len() * self.sheets.len() + self.curves.len();
-        let mut room = usize::try_from(index).ok()?.checked_sub(samples)?;
+    /// those that follow the named ones.
+    fn sized_request(&self, index: u64) -> Option<(Request, Room)> {
+        let mut room = usize::try_from(index).ok()?.checked_sub(self.named.len())?;
         for request in &self.sized {
             let most = request.call().most_room();
             if room <= most {
-                return Some((request, room));
+                return Some((request.clone(), Room::Entries(room)));
             }
             room -= most + 1;
         }
@@ -94,15 +76,16 @@ impl Inputs {
     }
 }
 
-/// Case 1 and a road of 64 curves with the calls that take a sheet, and case 1's
-/// curve.
+/// Case 1 and a road of 64 curves with the calls that take a sheet or a line, and
+/// case 1's curve.
 fn sized_requests(seed: u64) -> Vec<Request> {
     let lines = [Line::case_1(), road(&mut Dice::new(seed), MOST_CURVES)];
-    let sheets = lines.iter().map(sheet_of);
-    let mut requests: Vec<Request> = sheets
-        .flat_map(|sheet| Request::OF_A_SHEET.map(|request| request(sheet.clone())))
-        .collect();
-    requests.push(Request::Elements(Line::case_1().curve(1)));
+    let mut requests = vec![Request::Elements(Line::case_1().curve(1))];
+    for line in &lines {
+        let sheet = sheet_of(line);
+        requests.extend(Request::OF_A_SHEET.map(|request| request(sheet.clone())));
+        requests.push(Request::Write(line.numbers()));
+    }
     requests
 }
 
@@ -118,13 +101,21 @@ fn any_pattern(dice: &mut Dice) -> u64 {
     upper << 32 | lower
 }
 
+fn any_request_and_room(dice: &mut Dice) -> (Request, Room) {
+    let request = any_request(dice);
+    let room = any_room(dice, request.call().most_room());
+    (request, room)
+}
+
 fn any_request(dice: &mut Dice) -> Request {
-    match dice.between(0, 19) {
+    match dice.between(0, 29) {
         0..=6 => Request::Stations(any_sheet(dice)),
         7..=8 => Request::Check(any_sheet(dice)),
         9..=12 => Request::Rewrite(any_sheet(dice)),
         13..=15 => Request::Elements(any_curve(dice)),
-        _ => Request::Text(any_sheet(dice)),
+        16..=19 => Request::Text(any_sheet(dice)),
+        20..=23 => Request::Read(any_sheet(dice)),
+        _ => Request::Write(any_line(dice)),
     }
 }
 
@@ -148,58 +139,58 @@ mod tests {
     use crate::input::Call;
     use std::collections::BTreeSet;
 
+    /// How many inputs are not random.
+    fn fixed(inputs: &Inputs) -> u64 {
+        let sizes = inputs
+            .sized
+            .iter()
+            .map(|sized| sized.call().most_room() + 1);
+        (inputs.named.len() + sizes.sum::<usize>()) as u64
+    }
+
     #[test]
     fn same_inputs_for_the_same_seed() {
         let some = |seed| {
             let inputs = Inputs::of(seed);
-            let indexes = [(0, 200), (8_900, 9_400)];
-            indexes.map(|(first, end)| {
-                let inputs = (first..end).map(|index| inputs.input(index));
-                inputs.collect::<Vec<Input>>()
-            })
+            let fixed = fixed(&inputs);
+            let indexes = (0..200).chain(fixed - 100..fixed + 400);
+            indexes
+                .map(|index| inputs.input(index))
+                .collect::<Vec<Input>>()
         };
-        let inputs = some(1).concat();
-        assert_eq!(inputs, some(1).concat());
-        let others = some(2).concat();
+        let inputs = some(1);
+        assert_eq!(inputs, some(1));
+        let others = some(2);
         let equal = inputs.iter().zip(&others).filter(|(a, b)| a == b);
         assert_eq!(equal.count(), 0);
     }
 
     #[test]
-    fn samples_are_listed_once_for_each_call() {
-        let inputs = Inputs::of(1);
-        assert_eq!(
-            inputs.listed_request(6).unwrap().sheet(),
-            Some(&inputs.sheets[1][..])
-        );
-        let last_sheet = 4 * SHEETS as u64 - 1;
-        assert_eq!(
-            inputs.listed_request(last_sheet).unwrap().call(),
-            Call::Text
-        );
-        let curve = inputs.listed_request(last_sheet + 1).unwrap();
-        assert_eq!(curve, Request::Elements(inputs.curves[0]));
-        let last_curve = last_sheet + CURVES as u64;
-        assert!(inputs.listed_request(last_curve).is_some());
-        assert!(inputs.listed_request(last_curve + 1).is_none());
+    fn named_inputs_come_first_and_are_the_same_for_every_seed() {
+        let [first, second] = [1, 2].map(Inputs::of);
+        let count = first.named.len() as u64;
+        for index in 0..count {
+            assert_eq!(first.name(index), second.name(index));
+            let [one, other] = [&first, &second].map(|inputs| inputs.input(index));
+            assert_eq!((one.request, one.room), (other.request, other.room));
+        }
+        assert_eq!(first.name(0), Some("stations: case-01"));
+        assert_eq!(first.name(count), None);
     }
 
     #[test]
     fn every_size_of_buffer() {
         let inputs = Inputs::of(1);
-        let samples = 4 * SHEETS as u64 + CURVES as u64;
         let mut sizes = Call::ALL.map(|_| BTreeSet::new());
-        for index in 0.. {
-            let Some((request, room)) = inputs.sized_request(samples + index) else {
-                break;
-            };
-            assert!(inputs.listed_request(samples + index).is_none());
-            sizes[request.call() as usize].insert(room);
+        for index in inputs.named.len() as u64..fixed(&inputs) {
+            let input = inputs.input(index);
+            sizes[input.request.call() as usize].insert(input.room_entries());
         }
         for call in Call::ALL {
             let every: BTreeSet<usize> = (0..=call.most_room()).collect();
             assert_eq!(sizes[call as usize], every);
         }
+        assert!(inputs.sized_request(fixed(&inputs)).is_none());
     }
 
     #[test]

@@ -32,7 +32,7 @@ pub fn any_sheet(dice: &mut Dice) -> Vec<u8> {
 }
 
 /// How many curves: few in most cases, once in 20 the most.
-fn any_count(dice: &mut Dice) -> usize {
+pub fn any_count(dice: &mut Dice) -> usize {
     match dice.between(0, 19) {
         0..=1 => 0,
         2..=5 => 1,
@@ -45,7 +45,7 @@ fn any_count(dice: &mut Dice) -> usize {
 }
 
 /// A line that is accepted.
-fn any_road(dice: &mut Dice) -> Line {
+pub fn any_road(dice: &mut Dice) -> Line {
     let n = any_count(dice);
     road(dice, n)
 }
@@ -62,7 +62,7 @@ fn sheet_in_range(dice: &mut Dice) -> Vec<u8> {
 }
 
 /// A line whose every field is at an end of its range, or next to it.
-fn line_at_ends(dice: &mut Dice) -> Line {
+pub fn line_at_ends(dice: &mut Dice) -> Line {
     let n = any_count(dice);
     let e = near_end(dice, *CROSSFALLS.start(), *CROSSFALLS.end());
     let start = near_end(dice, 0, GREATEST_START);

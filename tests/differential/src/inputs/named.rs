@@ -1,0 +1,314 @@
+//! The inputs with a name, the same for every seed: document 01's cases, and both
+//! sides of every check at several places, built from the reference's samples.
+
+use crate::input::{Call, Request, Room};
+use reference::curve::Curve;
+use reference::line::{Line, MOST_CURVES};
+use reference::line_numbers::number_count;
+use reference::samples::curves;
+use reference::samples::dice::Dice;
+use reference::samples::line_edges;
+use reference::samples::named::{named, Claim, Named};
+use reference::samples::roads::road;
+use reference::samples::sheet_edges;
+use reference::samples::sheet_fields::sheet_of_any;
+use reference::samples::station_cases::named_sheets;
+use reference::samples::station_sheets::full_length_edges;
+use reference::samples::writer_edges;
+
+/// A request and the room that is lent.
+pub type NamedRequest = Named<(Request, Room)>;
+
+/// The seed of the roads and sheets among them.
+const SEED: u64 = 1;
+
+/// All of them. A name begins with that of the call.
+pub fn named_requests() -> Vec<NamedRequest> {
+    let mut dice = Dice::new(SEED);
+    [
+        stored_sheets(),
+        edges_of_the_reader(&mut dice),
+        edges_of_the_calculator(&mut dice),
+        curves(),
+        edges_of_the_writer(&mut dice),
+        odd_lines(&mut dice),
+    ]
+    .concat()
+}
+
+/// The request that is made of a sample.
+fn request_of<T>(sample: Named<T>, make: impl FnOnce(T) -> (Request, Room)) -> NamedRequest {
+    let made = sample.map(make);
+    let name = format!("{}: {}", made.sample.0.call().name(), made.name);
+    Named { name, ..made }
+}
+
+/// Every call that takes a sheet, with just the room that it needs.
+fn of_a_sheet(sheet: Named<Vec<u8>>) -> Vec<NamedRequest> {
+    Request::OF_A_SHEET
+        .map(|of_sheet| request_of(sheet.clone(), |sheet| (of_sheet(sheet), Room::Needed(0))))
+        .to_vec()
+}
+
+/// The sheets of `samples/stations`.
+fn stored_sheets() -> Vec<NamedRequest> {
+    named_sheets()
+        .into_iter()
+        .flat_map(|stored| of_a_sheet(named(stored.name, Claim::Open, stored.sheet)))
+        .collect()
+}
+
+fn edges_of_the_reader(dice: &mut Dice) -> Vec<NamedRequest> {
+    [sheet_edges::edges(dice), full_length_edges(dice)]
+        .concat()
+        .into_iter()
+        .flat_map(of_a_sheet)
+        .collect()
+}
+
+/// Lines that fit a sheet: the stations with the room of the edge; where it is
+/// not too small, the other calls too.
+fn edges_of_the_calculator(dice: &mut Dice) -> Vec<NamedRequest> {
+    let mut requests = Vec::new();
+    for edge in line_edges::edges(dice) {
+        let Some(sheet) = sheet_of_any(&edge.sample.line) else {
+            continue;
+        };
+        let line = named(format!("line, {}", edge.name), edge.claim, sheet);
+        let room = Room::Entries(edge.sample.room);
+        requests.push(request_of(line.clone(), |sheet| {
+            (Request::Stations(sheet), room)
+        }));
+        if edge.claim != Claim::of(16, 0) {
+            let calls = of_a_sheet(line).into_iter();
+            requests.extend(calls.filter(|other| other.sample.0.call() != Call::Stations));
+        }
+    }
+    requests
+}
+
+fn curves() -> Vec<NamedRequest> {
+    [curves::document_cases(), curves::edges()]
+        .concat()
+        .into_iter()
+        .map(|curve| request_of(curve, |curve| (Request::Elements(curve), Room::Needed(0))))
+        .collect()
+}
+
+/// Lines by their numbers, those that no sheet can hold among them.
+fn edges_of_the_writer(dice: &mut Dice) -> Vec<NamedRequest> {
+    let edges = writer_edges::edges(dice).into_iter();
+    let requests = edges.map(|edge| {
+        request_of(edge, |call| {
+            let line = call.line.numbers();
+            (Request::Write(line), Room::Entries(call.room))
+        })
+    });
+    requests.collect()
+}
+
+/// Numbers that are no line's: too few, too many, sides that are none, numbers
+/// wider than their fields.
+fn odd_lines(dice: &mut Dice) -> Vec<NamedRequest> {
+    [miscounted(dice), too_many_curves(), sides(dice), too_wide()]
+        .concat()
+        .into_iter()
+        .map(|line| request_of(line, |line| (Request::Write(line), Room::Needed(0))))
+        .collect()
+}
+
+/// Too few and too many numbers for n.
+fn miscounted(dice: &mut Dice) -> Vec<Named<Vec<u32>>> {
+    let mut lines = Vec::new();
+    for n in [0, 1, 3, MOST_CURVES] {
+        let line = road(dice, n).numbers();
+        for count in [
+            line.len() - 5,
+            line.len() - 1,
+            line.len() + 1,
+            line.len() + 5,
+        ] {
+            let mut line = line.clone();
+            line.resize(count, 1);
+            let name = format!("{count} numbers of {n} curves");
+            lines.push(named(name, Claim::of(3, 0), line));
+        }
+    }
+    let case_1 = Line::case_1().numbers();
+    for count in 1..9 {
+        let name = format!("case 1, cut to {count} numbers");
+        lines.push(named(name, Claim::of(3, 0), case_1[..count].to_vec()));
+    }
+    lines
+}
+
+/// Over 64 curves, with all their numbers; and counts of which the lower bits
+/// alone would be case 1's.
+fn too_many_curves() -> Vec<Named<Vec<u32>>> {
+    let Curve { a, r, l } = Line::case_1().curve(1);
+    let with_all = [65, 66, 127, 128, 129].map(|n| {
+        let mut line = Line::case_9().numbers();
+        line[0] = n as u32;
+        line.extend([0, a, r, l, 400_000].repeat(n));
+        assert_eq!(line.len(), number_count(n));
+        named(
+            format!("{n} curves with all their numbers"),
+            Claim::of(3, 0),
+            line,
+        )
+    });
+    let case_1s = [7, 8, 16, 31].map(|bit| {
+        let mut line = Line::case_1().numbers();
+        line[0] |= 1 << bit;
+        named(
+            format!("case 1, n is 1 and bit {bit}"),
+            Claim::of(3, 0),
+            line,
+        )
+    });
+    [&with_all[..], &case_1s].concat()
+}
+
+/// Sides other than right and left, alone and with faults before and behind.
+fn sides(dice: &mut Dice) -> Vec<Named<Vec<u32>>> {
+    let mut lines = Vec::new();
+    for (n, place) in [(1, 1), (3, 1), (3, 2), (3, 3), (MOST_CURVES, MOST_CURVES)] {
+        for side in [2, 3, 1 << 31, u32::MAX] {
+            let mut line = road(dice, n);
+            line.sides[place - 1] = side;
+            let name = format!("side {side} at {place} of {n} curves");
+            lines.push(named(name, Claim::of(9, place), line.numbers()));
+        }
+    }
+    let mut faulty = |name: &str, number, place, fault: fn(&mut Line)| {
+        let mut line = road(dice, 3);
+        line.sides[1] = 2;
+        fault(&mut line);
+        let name = format!("side 2 at 2 of 3 curves, {name}");
+        lines.push(named(name, Claim::of(number, place), line.numbers()));
+    };
+    faulty("V 0", 4, 0, |line| line.v = 0);
+    faulty("distance 0 of 0", 8, 0, |line| line.distances[0] = 0);
+    faulty("spiral 1 of 500001", 11, 1, |line| {
+        line.curves[0].l = 500_001
+    });
+    faulty("distance 1 of 0", 8, 1, |line| line.distances[1] = 0);
+    faulty("deflection 2 of 0", 9, 2, |line| line.curves[1].a = 0);
+    faulty("radius 2 of 0", 9, 2, |line| line.curves[1].r = 0);
+    faulty("distance 2 of 0", 9, 2, |line| line.distances[2] = 0);
+    faulty("side 3 of 2", 9, 2, |line| line.sides[2] = 2);
+    lines
+}
+
+/// Case 1 with one number that, cut to the bits of its field, would be its own:
+/// the number's index, the bits of its field, and the refusal.
+fn too_wide() -> Vec<Named<Vec<u32>>> {
+    let fields = [
+        ("V", 1, 7, (4, 0)),
+        ("e", 2, 4, (5, 0)),
+        ("start", 3, 28, (6, 0)),
+        ("distance 0", 4, 25, (8, 0)),
+        ("side", 5, 1, (9, 1)),
+        ("deflection", 6, 19, (9, 1)),
+        ("radius", 7, 23, (10, 1)),
+        ("spiral", 8, 19, (11, 1)),
+        ("distance 1", 9, 25, (8, 1)),
+    ];
+    let mut lines = Vec::new();
+    for (field, index, width, (number, place)) in fields {
+        let mut bits = vec![width, 25, 28, 31];
+        bits.retain(|bit| *bit >= width);
+        bits.dedup();
+        for bit in bits {
+            let mut line = Line::case_1().numbers();
+            line[index] |= 1 << bit;
+            let name = format!("case 1, {field} with bit {bit}");
+            lines.push(named(name, Claim::of(number, place), line));
+        }
+    }
+    lines
+}
+
+#[cfg(test)]
+mod tests {
+    use super::*;
+    use crate::compare::compare;
+    use crate::input::Input;
+    use crate::side::{Answer, Reference};
+    use std::collections::BTreeSet;
+
+    fn answer(named: &NamedRequest) -> Answer {
+        let (request, room) = named.sample.clone();
+        let input = Input {
+            request,
+            room,
+            pattern: 0,
+        };
+        compare(&Reference, &input).reference
+    }
+
+    #[test]
+    fn all_are_there() {
+        let mut dice = Dice::new(SEED);
+        let counts = [
+            stored_sheets().len(),
+            edges_of_the_reader(&mut dice).len(),
+            edges_of_the_calculator(&mut dice).len(),
+            curves().len(),
+            edges_of_the_writer(&mut dice).len(),
+            odd_lines(&mut dice).len(),
+        ];
+        // Of the calculator's 324 lines no sheet can hold 26; 7 rooms are too
+        // small.
+        let of_the_calculator = (324 - 26) * 5 - 7 * 4;
+        let of_the_reader = (532 + 32) * 5;
+        assert_eq!(
+            counts,
+            [31 * 5, of_the_reader, of_the_calculator, 8 + 469, 165, 93]
+        );
+    }
+
+    #[test]
+    fn names_differ() {
+        let requests = named_requests();
+        let mut names = BTreeSet::new();
+        for named in &requests {
+            assert!(names.insert(&named.name), "{} twice", named.name);
+        }
+    }
+
+    #[test]
+    fn each_is_answered_as_claimed() {
+        for named in named_requests() {
+            let answer = answer(&named);
+            let refusals = named.sample.0.call().refusals();
+            assert!(
+                named.holds(&refusals, &answer),
+                "{}: {answer:?}",
+                named.name
+            );
+        }
+    }
+
+    /// Every refusal of every call is claimed; too small rooms only of the calls
+    /// of a line, the other calls have every size elsewhere.
+    #[test]
+    fn every_refusal_is_claimed() {
+        for call in Call::ALL {
+            let mut expected: BTreeSet<u8> = call.refusals().into_iter().collect();
+            if !matches!(call, Call::Stations | Call::Write) {
+                expected.remove(&16);
+            }
+            let claimed: BTreeSet<u8> = named_requests()
+                .iter()
+                .filter(|named| named.sample.0.call() == call)
+                .filter_map(|named| match named.claim {
+                    Claim::Refused(refusal) => Some(refusal.number),
+                    _ => None,
+                })
+                .filter(|number| call.refusals().contains(number))
+                .collect();
+            assert_eq!(claimed, expected, "{}", call.name());
+        }
+    }
+}
