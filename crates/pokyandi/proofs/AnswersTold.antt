@@ -22,9 +22,9 @@ use Rattle.round_trips.proofs.Numbers.{read-numbers}
 use Rattle.sheet.proofs.WaysOut.{accepted-line, sheet-length}
 use Rattle.elements.specs.WorkingRule.{arcOf}
 use Rattle.elements.specs.Answer.{arcOutcome, elementOutcome}
-use Rattle.calculator.specs.Answer.{alignmentOutcome}
-use Rattle.calculator.proofs.Accepted.{few}
-use Rattle.calculator.proofs.WaysOut.{row-count}
+use Rattle.stationing.specs.Answer.{alignmentOutcome}
+use Rattle.stationing.proofs.Accepted.{few}
+use Rattle.stationing.proofs.WaysOut.{row-count}
 use Rattle.station_report.specs.Report.{sheetOutcome, sheetText}
 use Rattle.station_report.proofs.Fits.{sheet-numbers, fits}
 use Rattle.pokyandi.specs.Answers.{answerNumber, withRoom, replyFor}

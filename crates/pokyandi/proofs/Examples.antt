@@ -8,7 +8,7 @@ use Rattle.sheet.proofs.Examples as sheets
 use Rattle.elements.specs.declared.Elements.{Elements}
 use Rattle.elements.proofs.Replies.{found-elements}
 use Rattle.elements.proofs.Examples as curves
-use Rattle.calculator.proofs.Examples as lines
+use Rattle.stationing.proofs.Examples as lines
 use Rattle.station_report.specs.Report.{sheetOutcome}
 use Rattle.pokyandi.specs.Answers.{answerNumber, withRoom, replyFor, bufferFor}
 use Rattle.pokyandi.specs.Calls.{sheetStations, elementNumbers}

@@ -17,10 +17,10 @@ use Rattle.sheet.proofs.WaysOut.{accepted-line, sheet-length}
 use Rattle.elements.specs.declared.Elements.{Elements}
 use Rattle.elements.specs.Answer.{valuesBy, elementOutcome}
 use Rattle.elements.proofs.Replies.{FoundElements}
-use Rattle.calculator.specs.Stations.{stationRow}
-use Rattle.calculator.specs.Answer.{alignmentOutcome, roomCheck, stationsOutcome, stationsAnswer, stationsRow}
-use Rattle.calculator.proofs.Accepted.{few}
-use Rattle.calculator.proofs.WaysOut.{row-count}
+use Rattle.stationing.specs.Stations.{stationRow}
+use Rattle.stationing.specs.Answer.{alignmentOutcome, roomCheck, stationsOutcome, stationsAnswer, stationsRow}
+use Rattle.stationing.proofs.Accepted.{few}
+use Rattle.stationing.proofs.WaysOut.{row-count}
 use Rattle.station_report.specs.Report.{sheetOutcome}
 use Rattle.pokyandi.specs.Answers.{withRoom, replyFor, bufferFor}
 use Rattle.pokyandi.specs.Calls.{sheetStations, checkReply, rewritten, elementValues, elementNumbers, numbersOf}

@@ -9,7 +9,7 @@ use Rattle.sheet.specs.Reading.{readLine}
 use Rattle.sheet.specs.Writing.{sheetOf}
 use Rattle.elements.specs.declared.Elements.{Elements}
 use Rattle.elements.specs.Answer.{Values, valuesBy}
-use Rattle.calculator.specs.Stations.{stationRow}
+use Rattle.stationing.specs.Stations.{stationRow}
 use Rattle.station_report.specs.Report.{sheetOutcome}
 
 -- The stations of a sheet's line.

@@ -17,11 +17,11 @@ use Rattle.sheet.proofs.Examples as sheets
 use Rattle.elements.specs.WorkingRule.{arcOf}
 use Rattle.elements.specs.Answer.{answered, declined, elementReply}
 use Rattle.elements.proofs.Examples as curves
-use Rattle.calculator.specs.RoadTables.{radiusServes}
-use Rattle.calculator.specs.Stations.{straightAt}
-use Rattle.calculator.specs.Answer.{stationsAnswer, stationsRow}
-use Rattle.calculator.proofs.Examples.{caseLine, noCurve, row}
-use Rattle.calculator.proofs.Examples as lines
+use Rattle.stationing.specs.RoadTables.{radiusServes}
+use Rattle.stationing.specs.Stations.{straightAt}
+use Rattle.stationing.specs.Answer.{stationsAnswer, stationsRow}
+use Rattle.stationing.proofs.Examples.{caseLine, noCurve, row}
+use Rattle.stationing.proofs.Examples as lines
 use Rattle.report.specs.Numbers.{ascii}
 use Rattle.report.proofs.Examples as texts
 use Rattle.station_report.specs.Report.{lineText, sheetText}
