@@ -15,11 +15,11 @@ use Rattle.refusals.proofs.Joining.{never, passed-left, passed-right}
 use Rattle.line.specs.Checks.{curveOutcome}
 use Rattle.line.proofs.InRange.{line-in-range}
 use Rattle.line.proofs.Numbers.{curve-numbers}
-use Rattle.sheet.specs.Layout.{firstEdition}
-use Rattle.sheet.specs.Reading.{readOutcome, readLine}
-use Rattle.sheet.proofs.Frames.{count-below}
+use Rattle.packed_sheet.specs.Layout.{firstEdition}
+use Rattle.packed_sheet.specs.Reading.{readOutcome, readLine}
+use Rattle.packed_sheet.proofs.Frames.{count-below}
 use Rattle.round_trips.proofs.Numbers.{read-numbers}
-use Rattle.sheet.proofs.WaysOut.{accepted-line, sheet-length}
+use Rattle.packed_sheet.proofs.WaysOut.{accepted-line, sheet-length}
 use Rattle.elements.specs.WorkingRule.{arcOf}
 use Rattle.elements.specs.Answer.{arcOutcome, elementOutcome}
 use Rattle.stationing.specs.Answer.{alignmentOutcome}

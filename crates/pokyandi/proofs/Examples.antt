@@ -3,8 +3,8 @@ use mathlib.Core.Path.{_≡_, refl, sym}
 use mathlib.Core.List.{[], _∷_}
 use Rattle.refusals.specs.Outcomes.{passed, refused}
 use Rattle.refusals.specs.Filling.{filled, unfilled}
-use Rattle.sheet.proofs.Examples.{sheet9}
-use Rattle.sheet.proofs.Examples as sheets
+use Rattle.packed_sheet.proofs.Examples.{sheet9}
+use Rattle.packed_sheet.proofs.Examples as sheets
 use Rattle.elements.specs.declared.Elements.{Elements}
 use Rattle.elements.proofs.Replies.{found-elements}
 use Rattle.elements.proofs.Examples as curves

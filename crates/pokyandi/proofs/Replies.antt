@@ -10,10 +10,10 @@ use Rattle.refusals.specs.Outcomes.{Outcome, passed, refused, _▹_}
 use Rattle.refusals.specs.Filling.{FillReply, unfilled, countAfter}
 use Rattle.refusals.proofs.Joining.{passed-right}
 use Rattle.line.specs.declared.Line.{Line}
-use Rattle.sheet.specs.Layout.{firstEdition}
-use Rattle.sheet.specs.Reading.{readOutcome, readLine}
-use Rattle.sheet.specs.Writing.{writeOutcome, writeAnswer, writeBytes}
-use Rattle.sheet.proofs.WaysOut.{accepted-line, sheet-length}
+use Rattle.packed_sheet.specs.Layout.{firstEdition}
+use Rattle.packed_sheet.specs.Reading.{readOutcome, readLine}
+use Rattle.packed_sheet.specs.Writing.{writeOutcome, writeAnswer, writeBytes}
+use Rattle.packed_sheet.proofs.WaysOut.{accepted-line, sheet-length}
 use Rattle.elements.specs.declared.Elements.{Elements}
 use Rattle.elements.specs.Answer.{valuesBy, elementOutcome}
 use Rattle.elements.proofs.Replies.{FoundElements}

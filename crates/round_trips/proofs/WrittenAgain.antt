@@ -7,12 +7,12 @@ use lib.Dec.{eqb}
 use Rattle.line.specs.Checks.{distanceAt, blankCurve, curveAt}
 use Rattle.line.proofs.Entries.{entries-get}
 use Rattle.bits.specs.Bits.{Bytes, valueOf, bytesOf, bitsAt, valuesAt, packed}
-use Rattle.sheet.specs.Layout.{Edition, headWidths, distanceWidth, entryWidths, entryAt, fillWidth}
-use Rattle.sheet.specs.Reading.{headOf, countOf, distanceOf, curveOf, lineOf}
-use Rattle.sheet.specs.Writing.{sideBit, headValues, curveValues, entryValues, entriesAfter, numberTo, sheetNumber, sheetOf}
+use Rattle.packed_sheet.specs.Layout.{Edition, headWidths, distanceWidth, entryWidths, entryAt, fillWidth}
+use Rattle.packed_sheet.specs.Reading.{headOf, countOf, distanceOf, curveOf, lineOf}
+use Rattle.packed_sheet.specs.Writing.{sideBit, headValues, curveValues, entryValues, entriesAfter, numberTo, sheetNumber, sheetOf}
 use Rattle.bits.proofs.Bytes.{bytes-value}
 use Rattle.bits.proofs.Fields.{upTo, all-bits, no-bits, bits-lt, read-packed}
-use Rattle.sheet.proofs.Frames.{Framed}
+use Rattle.packed_sheet.proofs.Frames.{Framed}
 
 -- A bit is the one of the side that it tells.
 bit-of-side : (b : ℕ) → b < 2 ^ 1 → sideBit (eqb b 1) ≡ b

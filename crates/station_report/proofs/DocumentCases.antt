@@ -10,10 +10,10 @@ use Rattle.refusals.specs.Filling.{filled, unfilled}
 use Rattle.line.specs.Checks.{startOutcome, headOutcome, distanceOutcome, curveOutcome, bodyOutcome}
 use Rattle.line.specs.Entries.{entries}
 use Rattle.bits.specs.Bits.{valueOf, bitsAt, valuesAt}
-use Rattle.sheet.specs.Layout.{firstEdition}
-use Rattle.sheet.specs.Reading.{headOf, distanceOf, curveOf, lineOf, sizeOutcome, frameOutcome, readOutcome, readLine}
-use Rattle.sheet.proofs.Examples.{sheet9}
-use Rattle.sheet.proofs.Examples as sheets
+use Rattle.packed_sheet.specs.Layout.{firstEdition}
+use Rattle.packed_sheet.specs.Reading.{headOf, distanceOf, curveOf, lineOf, sizeOutcome, frameOutcome, readOutcome, readLine}
+use Rattle.packed_sheet.proofs.Examples.{sheet9}
+use Rattle.packed_sheet.proofs.Examples as sheets
 use Rattle.elements.specs.WorkingRule.{arcOf}
 use Rattle.elements.specs.Answer.{answered, declined, elementReply}
 use Rattle.elements.proofs.Examples as curves

@@ -9,8 +9,8 @@ use borrow.Author.Tests.{le-leb}
 use Rattle.refusals.specs.Outcomes.{Outcome, passed, refused, _▹_}
 use Rattle.refusals.specs.Filling.{FillReply, filled, unfilled}
 use Rattle.line.specs.declared.Line.{Line}
-use Rattle.sheet.specs.Layout.{firstEdition}
-use Rattle.sheet.specs.Reading.{readOutcome, readLine}
+use Rattle.packed_sheet.specs.Layout.{firstEdition}
+use Rattle.packed_sheet.specs.Reading.{readOutcome, readLine}
 use Rattle.stationing.specs.Stations.{stationRow}
 use Rattle.stationing.specs.Answer.{alignmentOutcome, stationCount, roomCheck, stationsOutcome, stationsAnswer, stationsRow}
 use Rattle.stationing.proofs.Accepted.{few}

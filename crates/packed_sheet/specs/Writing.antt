@@ -10,7 +10,7 @@ use Rattle.line.specs.declared.Curve.{Curve}
 use Rattle.line.specs.declared.Line.{Line}
 use Rattle.line.specs.Checks.{distanceAt, curveAt, lineOutcome}
 use Rattle.bits.specs.Bits.{packed, bytesOf}
-use Rattle.sheet.specs.Layout.{Edition, headWidths, distanceWidth, entryWidths, byteCount, fillWidth}
+use Rattle.packed_sheet.specs.Layout.{Edition, headWidths, distanceWidth, entryWidths, byteCount, fillWidth}
 
 -- "side (0 right, 1 left ..)"
 abbrev pub sideBit : Bool → ℕ

@@ -6,8 +6,8 @@ use Rattle.line.specs.declared.Line.{Line}
 use Rattle.line.specs.Checks.{distanceAt, curveAt}
 use Rattle.line.specs.Ranges.{LineInRange}
 use Rattle.bits.specs.Bits.{Fit}
-use Rattle.sheet.specs.Layout.{Edition, firstEdition, Holds, headWidths, distanceWidth, entryWidths}
-use Rattle.sheet.specs.Writing.{sideBit, headValues, entryValues}
+use Rattle.packed_sheet.specs.Layout.{Edition, firstEdition, Holds, headWidths, distanceWidth, entryWidths}
+use Rattle.packed_sheet.specs.Writing.{sideBit, headValues, entryValues}
 
 side-fits : (left : Bool) → sideBit left < 2 ^ 1
 side-fits false = omega arith
