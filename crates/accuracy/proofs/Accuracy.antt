@@ -8,8 +8,8 @@ use Rattle.refusals.specs.declared.FillAnswer.{FillAnswer}
 use Rattle.refusals.specs.declared.FillAnswer.the-variants.{Count}
 use Rattle.refusals.specs.Filling.{fillReplyOf}
 use Rattle.line.specs.declared.Line.{Line}
-use Rattle.calculator.specs.Answer.{stationsAnswer, stationsRow}
-use Rattle.calculator.proofs.Accepted.{accepted}
+use Rattle.stationing.specs.Answer.{stationsAnswer, stationsRow}
+use Rattle.stationing.proofs.Accepted.{accepted}
 use Rattle.orders.proofs.FirstRefusal.{first-refusal}
 use Rattle.orders.proofs.Replies.{counted, refused-stations}
 use Rattle.orders.proofs.RowNumbers.{row-numbers}

@@ -5,7 +5,7 @@ use Prim.Native.Nat.{ℕ, suc, _≤_, _<_}
 use native.Mathlib.Omega.{arith}
 use lib.Dec.{lit<}
 use Rattle.line.specs.declared.Line.{Line}
-use Rattle.calculator.proofs.Accepted.{Accepted}
+use Rattle.stationing.proofs.Accepted.{Accepted}
 use Rattle.accuracy.specs.Fractions.{whole, _≺_}
 use Rattle.accuracy.specs.ExactStations.{exactSpiralAt, exactArcAt, exactStraightAt, exactFormerST, exactPointsAt, exactEnd}
 use Rattle.accuracy.specs.Accuracy.{tenths, leastStraight, leastArc, InExactOrder}

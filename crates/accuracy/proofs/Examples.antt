@@ -16,9 +16,9 @@ use Rattle.line.specs.declared.Line.{Line}
 use Rattle.line.specs.Checks.{startOutcome, headOutcome, distanceOutcome, curveOutcome, bodyOutcome, lineOutcome}
 use Rattle.elements.specs.WorkingRule.{rounded, fullAngle, halfAngle, spiralAngle, term, alternating, sineOf, cosineOf, t2, t3, t4, unitX, unitY, spiralX, spiralY, centreOf, shiftOf, arcOf, tanOf, tangentOf}
 use Rattle.elements.specs.Answer.{arcOutcome}
-use Rattle.calculator.specs.RoadTables.{underSpeed, frictionAt, leastSpiralAt, radiusServes, spiralServes}
-use Rattle.calculator.specs.Stations.{spiralAt, arcAt, tangentAt, tangentBefore, tangentAfter, straightAt, formerST, pointsAt, endOf}
-use Rattle.calculator.specs.Answer.{designOutcome, curveCheck, straightCheck, alignmentOutcome, roomCheck, stationsOutcome, stationsAnswer}
+use Rattle.stationing.specs.RoadTables.{underSpeed, frictionAt, leastSpiralAt, radiusServes, spiralServes}
+use Rattle.stationing.specs.Stations.{spiralAt, arcAt, tangentAt, tangentBefore, tangentAfter, straightAt, formerST, pointsAt, endOf}
+use Rattle.stationing.specs.Answer.{designOutcome, curveCheck, straightCheck, alignmentOutcome, roomCheck, stationsOutcome, stationsAnswer}
 use Rattle.accuracy.specs.Fractions.{Fraction, whole, nat, _⊕_, _⊖_, _⊗_, _^_, _⊘_, over, ratio, _≼_, _≺_, _≈_}
 use Rattle.accuracy.specs.ExactElements.{exactPi, exactAngle, exactHalfAngle, exactSpiralAngle, alternatingSum, factorial, exactSine, exactCosine, documentTerms, exactX, exactY, exactCentre, exactShift, exactArc, exactTan, exactTangent}
 use Rattle.accuracy.specs.ExactStations.{exactSpiralAt, exactArcAt, exactTangentAt, exactTangentBefore, exactTangentAfter, exactStraightAt, exactFormerST, exactPointsAt, exactEnd}

@@ -8,8 +8,8 @@ use borrow.Author.Tests.{lt-ltb, le-ltb}
 use Rattle.line.specs.declared.Line.{Line}
 use Rattle.line.specs.Checks.{distanceAt, curveAt}
 use Rattle.line.specs.Ranges.{LineInRange}
-use Rattle.calculator.specs.Stations.{spiralAt, arcAt, tangentAt, tangentBefore, tangentAfter, straightAt, formerST, pointsAt, endOf}
-use Rattle.calculator.proofs.StraightSteps.{after-inside, after-end}
+use Rattle.stationing.specs.Stations.{spiralAt, arcAt, tangentAt, tangentBefore, tangentAfter, straightAt, formerST, pointsAt, endOf}
+use Rattle.stationing.proofs.StraightSteps.{after-inside, after-end}
 use Rattle.accuracy.specs.Fractions.{nat}
 use Rattle.accuracy.specs.ExactStations.{exactSpiralAt, exactArcAt, exactTangentAt, exactTangentBefore, exactTangentAfter, exactStraightAt, exactFormerST, exactPointsAt, exactEnd}
 use Rattle.accuracy.proofs.Nearness.{Near, loosen, near-nat, near-sum, near-difference}

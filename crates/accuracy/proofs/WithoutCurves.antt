@@ -9,7 +9,7 @@ use lib.IntN.{ℤ, pos, _*ℤ_}
 use lib.ListN.{length, getD}
 use Rattle.refusals.specs.Filling.{filled}
 use Rattle.line.specs.declared.Line.{Line}
-use Rattle.calculator.specs.Answer.{stationsAnswer, stationsRow}
+use Rattle.stationing.specs.Answer.{stationsAnswer, stationsRow}
 use Rattle.accuracy.specs.Fractions.{Fraction, whole, nat, _⊖_, _⊗_, _≼_, _≈_}
 use Rattle.accuracy.specs.ExactElements.{documentTerms}
 use Rattle.accuracy.specs.ExactStations.{exactEnd}

@@ -7,7 +7,7 @@ use lib.ListN.{length, getD}
 use Rattle.refusals.specs.Filling.{filled, unfilled}
 use Rattle.line.specs.declared.Line.{Line}
 use Rattle.elements.specs.WorkingRule.{spiralX, spiralY, centreOf, shiftOf, arcOf, tangentOf}
-use Rattle.calculator.specs.Answer.{stationsAnswer, stationsRow}
+use Rattle.stationing.specs.Answer.{stationsAnswer, stationsRow}
 use Rattle.accuracy.specs.Fractions.{Fraction, whole, nat, _⊖_, _⊗_, _⊘_, _≼_, _≺_}
 use Rattle.accuracy.specs.ExactElements.{exactX, exactY, exactCentre, exactShift, exactArc, exactTangent}
 use Rattle.accuracy.specs.ExactStations.{exactArcAt, exactStraightAt, exactFormerST, exactPointsAt, exactEnd}

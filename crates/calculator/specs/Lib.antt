@@ -1,5 +1,2 @@
--- What the contracts and the laws of `calculator` cite.
-pub mod RoadTables
-pub mod Stations
-pub mod Answer
+-- What the contracts of `calculator`'s private functions cite.
 pub mod Lengths

@@ -1,7 +1,8 @@
 // The lengths of a line's straights and arcs, in µm, with the calculator's checks 3 to 15.
 ghost use mathlib.Core.Path.{_≡_};
 ghost use Rattle.line.specs.Ranges.{LineInRange};
-ghost use Rattle.calculator.specs.Lengths.{TangentsTo, CurvesOf, StraightsOf, LengthsOf};
+ghost use Rattle.stationing.specs.Arrays.{TangentsTo};
+ghost use Rattle.calculator.specs.Lengths.{CurvesOf, StraightsOf, LengthsOf};
 use crate::tables::check_least;
 use elements::ElementAnswer;
 use elements::curve_elements;

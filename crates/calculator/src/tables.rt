@@ -2,7 +2,7 @@
 ghost use mathlib.Core.Path.{_≡_};
 ghost use Prim.Native.Nat.{_-_, _/_, _%_, _<_, _≤_};
 ghost use Rattle.refusals.specs.Outcomes.{outcomeOf, need, _▹_};
-ghost use Rattle.calculator.specs.RoadTables.{frictionAt, leastSpiralAt, radiusServes, spiralServes};
+ghost use Rattle.stationing.specs.RoadTables.{frictionAt, leastSpiralAt, radiusServes, spiralServes};
 use refusals::Refusal;
 use refusals::Verdict;
 use refusals::first;

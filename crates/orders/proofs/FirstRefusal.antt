@@ -15,9 +15,9 @@ use Rattle.line.specs.declared.Line.{Line}
 use Rattle.line.specs.Checks.{curveAt, lineOutcome}
 use Rattle.line.proofs.Numbers.{line-numbers}
 use Rattle.elements.specs.Answer.{arcOutcome}
-use Rattle.calculator.specs.RoadTables.{radiusServes, spiralServes}
-use Rattle.calculator.specs.Stations.{arcAt, straightAt}
-use Rattle.calculator.specs.Answer.{designOutcome, curveCheck, straightCheck, alignmentOutcome, stationCount, roomCheck, stationsOutcome}
+use Rattle.stationing.specs.RoadTables.{radiusServes, spiralServes}
+use Rattle.stationing.specs.Stations.{arcAt, straightAt}
+use Rattle.stationing.specs.Answer.{designOutcome, curveCheck, straightCheck, alignmentOutcome, stationCount, roomCheck, stationsOutcome}
 
 -- The fields and the curves before entry i pass.
 pub record BeforeCurve (line : Line) (i : ℕ) : Type 0 where

@@ -9,12 +9,12 @@ use Rattle.numbers.specs.Whole.{Between}
 use Rattle.numbers.proofs.Ranges.{widen, sum-between}
 use Rattle.refusals.specs.Outcomes.{passed}
 use Rattle.line.specs.declared.Line.{Line}
-use Rattle.calculator.specs.Stations.{pointsAt, formerST, endOf, curveStations, stationsOf, stationRow}
-use Rattle.calculator.specs.Answer.{alignmentOutcome}
+use Rattle.stationing.specs.Stations.{pointsAt, formerST, endOf, curveStations, stationsOf, stationRow}
+use Rattle.stationing.specs.Answer.{alignmentOutcome}
 use Rattle.orders.specs.Order.{Ascent, done, up}
-use Rattle.calculator.proofs.RowSteps.{numbersTo}
-use Rattle.calculator.proofs.Accepted.{Accepted, accepted}
-use Rattle.calculator.proofs.FormerST.{spiral-between, former-between}
+use Rattle.stationing.proofs.RowSteps.{numbersTo}
+use Rattle.stationing.proofs.Accepted.{Accepted, accepted}
+use Rattle.stationing.proofs.FormerST.{spiral-between, former-between}
 
 -- One ascent after the other.
 joined : {a b c : ℕ} {xs ys : List ℕ} → Ascent a xs b → Ascent b ys c → Ascent a (xs ++ ys) c

@@ -10,9 +10,9 @@ use Rattle.line.specs.Checks.{curveAt, lineOutcome}
 use Rattle.line.proofs.Numbers.{line-numbers}
 use Rattle.elements.specs.WorkingRule.{arcOf}
 use Rattle.elements.specs.Answer.{arcOutcome}
-use Rattle.calculator.specs.RoadTables.{radiusServes, spiralServes}
-use Rattle.calculator.specs.Stations.{straightAt}
-use Rattle.calculator.specs.Answer.{designOutcome, curveCheck, straightCheck, alignmentOutcome}
+use Rattle.stationing.specs.RoadTables.{radiusServes, spiralServes}
+use Rattle.stationing.specs.Stations.{straightAt}
+use Rattle.stationing.specs.Answer.{designOutcome, curveCheck, straightCheck, alignmentOutcome}
 
 design-numbers : (v e A R L place far : ℕ) → place ≤ far → Refuses 3 15 far (designOutcome v e A R L place)
 unfolding designOutcome arcOutcome

@@ -10,9 +10,9 @@ use Rattle.refusals.specs.Filling.{filled, unfilled, bufferAfter}
 use Rattle.refusals.proofs.Filled.{filled-passed, unfilled-refused}
 use Rattle.refusals.proofs.Joining.{passed-left, passed-right, need-holds}
 use Rattle.line.specs.declared.Line.{Line}
-use Rattle.calculator.specs.Stations.{stationRow}
-use Rattle.calculator.specs.Answer.{alignmentOutcome, stationCount, roomCheck, stationsOutcome, stationsAnswer, stationsRow}
-use Rattle.calculator.proofs.WaysOut.{row-count}
+use Rattle.stationing.specs.Stations.{stationRow}
+use Rattle.stationing.specs.Answer.{alignmentOutcome, stationCount, roomCheck, stationsOutcome, stationsAnswer, stationsRow}
+use Rattle.stationing.proofs.WaysOut.{row-count}
 
 -- The count was answered: every check passed, and the row holds the stations and what lay behind them.
 pub record Counted (line : Line) (row : List ℕ) (count : ℕ) : Type 0 where

@@ -11,10 +11,10 @@ use lib.ListN.{length, drop, getD, length-map, List·getD-append, List·getD-map
 use lib.Seq.{getD-append-add}
 use Rattle.refusals.specs.Filling.{filled}
 use Rattle.line.specs.declared.Line.{Line}
-use Rattle.calculator.specs.Stations.{pointsAt, endOf, curveStations, stationsOf, stationRow}
-use Rattle.calculator.specs.Answer.{stationCount, stationsAnswer, stationsRow}
-use Rattle.calculator.proofs.RowSteps.{numbers-length}
-use Rattle.calculator.proofs.WaysOut.{row-count}
+use Rattle.stationing.specs.Stations.{pointsAt, endOf, curveStations, stationsOf, stationRow}
+use Rattle.stationing.specs.Answer.{stationCount, stationsAnswer, stationsRow}
+use Rattle.stationing.proofs.RowSteps.{numbers-length}
+use Rattle.stationing.proofs.WaysOut.{row-count}
 use Rattle.orders.proofs.InOrder.{fourAt, in-order}
 use Rattle.orders.proofs.Replies.{counted}
 

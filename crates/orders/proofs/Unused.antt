@@ -13,9 +13,9 @@ use Rattle.refusals.proofs.InTurn.{alike-in-turn}
 use Rattle.line.specs.declared.Line.{Line}
 use Rattle.line.specs.Ranges.{AlikeWhereUsed}
 use Rattle.line.proofs.Unused.{unused-ignored}
-use Rattle.calculator.proofs.StraightSteps.{after-inside, after-end}
-use Rattle.calculator.specs.Stations.{spiralAt, arcAt, tangentAt, tangentBefore, tangentAfter, straightAt, pointsAt, formerST, endOf, curveStations, stationsOf, stationRow}
-use Rattle.calculator.specs.Answer.{curveCheck, straightCheck, alignmentOutcome, roomCheck, stationsOutcome, stationsAnswer, stationsRow}
+use Rattle.stationing.proofs.StraightSteps.{after-inside, after-end}
+use Rattle.stationing.specs.Stations.{spiralAt, arcAt, tangentAt, tangentBefore, tangentAfter, straightAt, pointsAt, formerST, endOf, curveStations, stationsOf, stationRow}
+use Rattle.stationing.specs.Answer.{curveCheck, straightCheck, alignmentOutcome, roomCheck, stationsOutcome, stationsAnswer, stationsRow}
 
 module _ (l m : Line) (alike : AlikeWhereUsed l m) where
   module _ (i : ℕ) (h : i < l .count) where

@@ -19,16 +19,16 @@ use Rattle.line.proofs.Numbers.{curve-numbers, line-numbers}
 use Rattle.line_numbers.specs.Numbers.{numberCount, numberAt, lineOf, countOutcome, numbersOutcome}
 use Rattle.line_numbers.proofs.Storing.{line-length}
 use Rattle.line_numbers.proofs.LineAndNumbers.{few-counted}
-use Rattle.sheet.specs.Layout.{firstEdition}
-use Rattle.sheet.specs.Reading.{readOutcome, readLine}
-use Rattle.sheet.proofs.Frames.{count-below}
+use Rattle.packed_sheet.specs.Layout.{firstEdition}
+use Rattle.packed_sheet.specs.Reading.{readOutcome, readLine}
+use Rattle.packed_sheet.proofs.Frames.{count-below}
 use Rattle.round_trips.proofs.Numbers.{read-numbers}
-use Rattle.sheet.proofs.WaysOut.{accepted-line, sheet-length}
+use Rattle.packed_sheet.proofs.WaysOut.{accepted-line, sheet-length}
 use Rattle.elements.specs.WorkingRule.{arcOf}
 use Rattle.elements.specs.Answer.{arcOutcome, elementOutcome}
-use Rattle.calculator.specs.Answer.{alignmentOutcome}
-use Rattle.calculator.proofs.Accepted.{few}
-use Rattle.calculator.proofs.WaysOut.{row-count}
+use Rattle.stationing.specs.Answer.{alignmentOutcome}
+use Rattle.stationing.proofs.Accepted.{few}
+use Rattle.stationing.proofs.WaysOut.{row-count}
 use Rattle.station_report.specs.Report.{sheetOutcome, sheetText}
 use Rattle.station_report.proofs.Fits.{sheet-numbers, fits}
 use Rattle.pokyandi.specs.Answers.{answerNumber}

@@ -2,12 +2,12 @@
 use mathlib.Core.Path.{_≡_, refl, sym}
 use mathlib.Core.List.{[], _∷_}
 use Rattle.refusals.specs.Filling.{filled, unfilled, replyFor, bufferFor}
-use Rattle.sheet.proofs.Examples.{sheet9}
-use Rattle.sheet.proofs.Examples as sheets
+use Rattle.packed_sheet.proofs.Examples.{sheet9}
+use Rattle.packed_sheet.proofs.Examples as sheets
 use Rattle.elements.specs.declared.Elements.{Elements}
 use Rattle.elements.proofs.Replies.{found-elements}
 use Rattle.elements.proofs.Examples as curves
-use Rattle.calculator.proofs.Examples as lines
+use Rattle.stationing.proofs.Examples as lines
 use Rattle.station_report.specs.Report.{sheetOutcome}
 use Rattle.pokyandi.specs.Answers.{answerNumber}
 use Rattle.pokyandi.specs.Calls.{sheetStations, elementNumbers}

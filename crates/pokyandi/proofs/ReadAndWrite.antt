@@ -13,11 +13,11 @@ use Rattle.line.proofs.InRange.{line-in-range}
 use Rattle.line_numbers.specs.Numbers.{lineNumbers, lineOf, countOutcome, numbersOutcome}
 use Rattle.line_numbers.proofs.LineAndNumbers.{line-again, outcome-again, numbers-again}
 use Rattle.bits.specs.Bits.{Bytes}
-use Rattle.sheet.specs.Layout.{firstEdition}
-use Rattle.sheet.specs.Reading.{readOutcome, readLine}
-use Rattle.sheet.specs.Writing.{sheetOf}
-use Rattle.sheet.proofs.Fitting.{first-holds}
-use Rattle.sheet.proofs.WaysOut.{accepted-line}
+use Rattle.packed_sheet.specs.Layout.{firstEdition}
+use Rattle.packed_sheet.specs.Reading.{readOutcome, readLine}
+use Rattle.packed_sheet.specs.Writing.{sheetOf}
+use Rattle.packed_sheet.proofs.Fitting.{first-holds}
+use Rattle.packed_sheet.proofs.WaysOut.{accepted-line}
 use Rattle.round_trips.proofs.RoundTrip as sheets
 use Rattle.round_trips.proofs.Unused.{same-sheet}
 use Rattle.pokyandi.specs.Calls.{sheetNumbers, numbersSheet}

@@ -15,17 +15,17 @@ use Rattle.line.specs.declared.Line.{Line}
 use Rattle.line.specs.Checks.{lineOutcome}
 use Rattle.line.proofs.InRange.{line-in-range}
 use Rattle.line_numbers.specs.Numbers.{lineNumbers, fewOutcome, lineOf, countOutcome, numbersOutcome}
-use Rattle.sheet.specs.Layout.{firstEdition}
-use Rattle.sheet.specs.Reading.{readOutcome, readLine}
-use Rattle.sheet.specs.Writing.{writeOutcome, writeAnswer, writeBytes}
-use Rattle.sheet.proofs.WaysOut.{accepted-line, sheet-length}
+use Rattle.packed_sheet.specs.Layout.{firstEdition}
+use Rattle.packed_sheet.specs.Reading.{readOutcome, readLine}
+use Rattle.packed_sheet.specs.Writing.{writeOutcome, writeAnswer, writeBytes}
+use Rattle.packed_sheet.proofs.WaysOut.{accepted-line, sheet-length}
 use Rattle.elements.specs.declared.Elements.{Elements}
 use Rattle.elements.specs.Answer.{valuesBy, elementOutcome}
 use Rattle.elements.proofs.Replies.{FoundElements}
-use Rattle.calculator.specs.Stations.{stationRow}
-use Rattle.calculator.specs.Answer.{alignmentOutcome, roomCheck, stationsOutcome, stationsAnswer, stationsRow}
-use Rattle.calculator.proofs.Accepted.{few}
-use Rattle.calculator.proofs.WaysOut.{row-count}
+use Rattle.stationing.specs.Stations.{stationRow}
+use Rattle.stationing.specs.Answer.{alignmentOutcome, roomCheck, stationsOutcome, stationsAnswer, stationsRow}
+use Rattle.stationing.proofs.Accepted.{few}
+use Rattle.stationing.proofs.WaysOut.{row-count}
 use Rattle.station_report.specs.Report.{sheetOutcome}
 use Rattle.pokyandi.specs.Calls.{sheetStations, checkReply, rewritten, sheetNumbers, numbersSheet, elementValues, elementNumbers, numbersOf}
 

@@ -6,8 +6,8 @@ use lib.ListN.{length}
 use Rattle.refusals.specs.Outcomes.{Outcome, passed, refused}
 use Rattle.refusals.specs.Filling.{withRoom, replyFor, bufferFor}
 use Rattle.bits.specs.Bits.{Bytes}
-use Rattle.sheet.specs.Layout.{firstEdition}
-use Rattle.sheet.specs.Reading.{readOutcome}
+use Rattle.packed_sheet.specs.Layout.{firstEdition}
+use Rattle.packed_sheet.specs.Reading.{readOutcome}
 use Rattle.round_trips.proofs.RoundTrip.{read-then-write}
 use Rattle.pokyandi.specs.Calls.{rewritten}
 

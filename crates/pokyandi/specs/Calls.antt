@@ -5,12 +5,12 @@ use lib.IntN.{ℤ, natAbs}
 use lib.ListN.{length}
 use Rattle.refusals.specs.Filling.{FillReply, countAfter}
 use Rattle.line_numbers.specs.Numbers.{lineNumbers, lineOf}
-use Rattle.sheet.specs.Layout.{firstEdition}
-use Rattle.sheet.specs.Reading.{readLine}
-use Rattle.sheet.specs.Writing.{sheetOf}
+use Rattle.packed_sheet.specs.Layout.{firstEdition}
+use Rattle.packed_sheet.specs.Reading.{readLine}
+use Rattle.packed_sheet.specs.Writing.{sheetOf}
 use Rattle.elements.specs.declared.Elements.{Elements}
 use Rattle.elements.specs.Answer.{Values, valuesBy}
-use Rattle.calculator.specs.Stations.{stationRow}
+use Rattle.stationing.specs.Stations.{stationRow}
 use Rattle.station_report.specs.Report.{sheetOutcome}
 
 -- The stations of a sheet's line.

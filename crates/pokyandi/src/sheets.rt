@@ -2,8 +2,8 @@
 ghost use mathlib.Core.Path.{_≡_};
 ghost use lib.ListN.{length};
 ghost use Rattle.refusals.specs.Filling.{fillReplyOf, replyFor, bufferFor};
-ghost use Rattle.sheet.specs.Layout.{firstEdition};
-ghost use Rattle.sheet.specs.Reading.{readOutcome};
+ghost use Rattle.packed_sheet.specs.Layout.{firstEdition};
+ghost use Rattle.packed_sheet.specs.Reading.{readOutcome};
 ghost use Rattle.station_report.specs.Report.{sheetOutcome};
 ghost use Rattle.pokyandi.specs.Calls.{sheetStations, rewritten};
 use refusals::FillAnswer;

@@ -10,8 +10,8 @@ use Rattle.refusals.proofs.Numbers.{Refuses, one-number, joined-numbers, wider}
 use Rattle.line.specs.Checks.{headOutcome, bodyOutcome}
 use Rattle.line.proofs.Numbers.{head-numbers, body-numbers}
 use Rattle.bits.specs.Bits.{bitsAt}
-use Rattle.sheet.specs.Layout.{Edition, bitCount, byteCount, fillWidth}
-use Rattle.sheet.specs.Reading.{headOf, countOf, lineOf, sizeOutcome, frameOutcome, readOutcome}
+use Rattle.packed_sheet.specs.Layout.{Edition, bitCount, byteCount, fillWidth}
+use Rattle.packed_sheet.specs.Reading.{headOf, countOf, lineOf, sizeOutcome, frameOutcome, readOutcome}
 
 pub read-numbers : (E : Edition) (s : List ℕ) → Refuses 1 11 (countOf E s) (readOutcome E s)
 unfolding readOutcome frameOutcome sizeOutcome

@@ -16,16 +16,16 @@ use Rattle.line.specs.Checks.{lineOutcome}
 use Rattle.line.specs.Entries.{cleared}
 use Rattle.line.proofs.InRange.{line-in-range}
 use Rattle.bits.specs.Bits.{Bytes}
-use Rattle.sheet.specs.Layout.{Edition, firstEdition, Holds, byteCount}
-use Rattle.sheet.specs.Reading.{lineOf, readOutcome, lineAfter, readLine}
-use Rattle.sheet.specs.Writing.{sheetOf, writeOutcome, writeAnswer, writeBytes}
-use Rattle.sheet.proofs.Fitting.{first-holds}
-use Rattle.sheet.proofs.Frames.{framed}
+use Rattle.packed_sheet.specs.Layout.{Edition, firstEdition, Holds, byteCount}
+use Rattle.packed_sheet.specs.Reading.{lineOf, readOutcome, lineAfter, readLine}
+use Rattle.packed_sheet.specs.Writing.{sheetOf, writeOutcome, writeAnswer, writeBytes}
+use Rattle.packed_sheet.proofs.Fitting.{first-holds}
+use Rattle.packed_sheet.proofs.Frames.{framed}
 use Rattle.round_trips.proofs.WrittenAgain.{sheet-again}
 use Rattle.round_trips.proofs.ReadAgain.{line-again, read-again}
 use Rattle.sheet.specs.declared.reader.ReadAnswer.{ReadAnswer}
 use Rattle.refusals.specs.declared.FillAnswer.{FillAnswer}
-use Rattle.sheet.proofs.WaysOut.{sheet-length, frame-passes, accepted-line}
+use Rattle.packed_sheet.proofs.WaysOut.{sheet-length, frame-passes, accepted-line}
 
 -- A line written and read again comes back with its unused entries zero.
 pub write-then-read : (E : Edition) → Holds E → (line : Line) → lineOutcome line ≡ passed

@@ -12,8 +12,8 @@ use Rattle.line.specs.declared.Line.{Line}
 use Rattle.line.specs.Entries.{cleared}
 use Rattle.line.proofs.Unused.{unused-ignored, cleared-distance, cleared-curve, cleared-alike}
 use Rattle.bits.specs.Bits.{packed, bytesOf}
-use Rattle.sheet.specs.Layout.{Edition, headWidths, distanceWidth, entryWidths, byteCount, fillWidth}
-use Rattle.sheet.specs.Writing.{headValues, curveValues, entriesAfter, numberTo, sheetNumber, sheetOf, writeOutcome, writeAnswer, writeBytes}
+use Rattle.packed_sheet.specs.Layout.{Edition, headWidths, distanceWidth, entryWidths, byteCount, fillWidth}
+use Rattle.packed_sheet.specs.Writing.{headValues, curveValues, entriesAfter, numberTo, sheetNumber, sheetOf, writeOutcome, writeAnswer, writeBytes}
 
 module _ (E : Edition) (line : Line) (few : line .count ≤ 64) where
   same-entries : (i x : ℕ) → i ≤ line .count → entriesAfter (cleared line) i x ≡ entriesAfter line i x

@@ -9,8 +9,8 @@ use Rattle.line.specs.declared.Line.{Line}
 use Rattle.line.specs.Checks.{distanceAt}
 use Rattle.sheet.specs.declared.pen.Pen.{Pen}
 use Rattle.bits.specs.Bits.{Bytes, packed, total}
-use Rattle.sheet.specs.Layout.{Edition, headWidths, distanceWidth, entryWidths, byteCount, fillWidth}
-use Rattle.sheet.specs.Writing.{headValues, entryValues, entriesAfter, numberTo, sheetNumber, sheetOf}
+use Rattle.packed_sheet.specs.Layout.{Edition, headWidths, distanceWidth, entryWidths, byteCount, fillWidth}
+use Rattle.packed_sheet.specs.Writing.{headValues, entryValues, entriesAfter, numberTo, sheetNumber, sheetOf}
 use Rattle.sheet.specs.Pens.{Put}
 use Rattle.sheet.proofs.Pens.{newPen, put-put, put-as, bytes-written}
 

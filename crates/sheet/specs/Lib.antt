@@ -1,5 +1,2 @@
--- What the contracts and the theorems of `sheet` cite.
-pub mod Layout
-pub mod Reading
-pub mod Writing
+-- What the contracts of `sheet`'s private functions cite.
 pub mod Pens

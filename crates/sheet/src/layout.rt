@@ -1,7 +1,7 @@
 // The layout of a sheet of edition 1: the widths of its fields in bits.
 ghost use mathlib.Core.Path.{_≡_};
 ghost use Prim.Native.Nat.{_<_};
-ghost use Rattle.sheet.specs.Layout.{firstEdition, entryAt, bitCount, byteCount};
+ghost use Rattle.packed_sheet.specs.Layout.{firstEdition, entryAt, bitCount, byteCount};
 
 // The head.
 pub(crate) const EDITION: usize = 4;

@@ -5,8 +5,8 @@ ghost use lib.ListN.{length};
 ghost use Rattle.refusals.specs.Outcomes.{passed, outcomeOf};
 ghost use Rattle.line.specs.Entries.{blankLine};
 ghost use Rattle.bits.specs.Bits.{valuesAt};
-ghost use Rattle.sheet.specs.Layout.{firstEdition, curveWidths};
-ghost use Rattle.sheet.specs.Reading.{headOf, curveFrom, sizeOutcome, frameOutcome, lineOf, readOutcome, readLine};
+ghost use Rattle.packed_sheet.specs.Layout.{firstEdition, curveWidths};
+ghost use Rattle.packed_sheet.specs.Reading.{headOf, curveFrom, sizeOutcome, frameOutcome, lineOf, readOutcome, readLine};
 use crate::fields::bits_at;
 use crate::fields::last_bits;
 use crate::fields::long_bits_at;
@@ -27,6 +27,7 @@ use line::Curve;
 use line::Line;
 use line::check_head;
 use line::check_line;
+use packed_sheet::Head;
 use refusals::Refusal;
 use refusals::Verdict;
 use refusals::first;
@@ -36,15 +37,6 @@ use refusals::must;
 pub struct ReadAnswer {
     pub verdict: Verdict,
     pub line: Line,
-}
-
-// The head's fields.
-struct Head {
-    edition: u32,
-    count: usize,
-    speed: u32,
-    crossfall: u32,
-    start: u32,
 }
 
 fn read_head(sheet: &[u8]) -> Head

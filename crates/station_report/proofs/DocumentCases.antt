@@ -10,18 +10,18 @@ use Rattle.refusals.specs.Filling.{filled, unfilled}
 use Rattle.line.specs.Checks.{startOutcome, headOutcome, distanceOutcome, curveOutcome, bodyOutcome}
 use Rattle.line.specs.Entries.{entries}
 use Rattle.bits.specs.Bits.{valueOf, bitsAt, valuesAt}
-use Rattle.sheet.specs.Layout.{firstEdition}
-use Rattle.sheet.specs.Reading.{headOf, distanceOf, curveOf, lineOf, sizeOutcome, frameOutcome, readOutcome, readLine}
-use Rattle.sheet.proofs.Examples.{sheet9}
-use Rattle.sheet.proofs.Examples as sheets
+use Rattle.packed_sheet.specs.Layout.{firstEdition}
+use Rattle.packed_sheet.specs.Reading.{headOf, distanceOf, curveOf, lineOf, sizeOutcome, frameOutcome, readOutcome, readLine}
+use Rattle.packed_sheet.proofs.Examples.{sheet9}
+use Rattle.packed_sheet.proofs.Examples as sheets
 use Rattle.elements.specs.WorkingRule.{arcOf}
 use Rattle.elements.specs.Answer.{answered, declined, elementReply}
 use Rattle.elements.proofs.Examples as curves
-use Rattle.calculator.specs.RoadTables.{radiusServes}
-use Rattle.calculator.specs.Stations.{straightAt}
-use Rattle.calculator.specs.Answer.{stationsAnswer, stationsRow}
-use Rattle.calculator.proofs.Examples.{caseLine, noCurve, row}
-use Rattle.calculator.proofs.Examples as lines
+use Rattle.stationing.specs.RoadTables.{radiusServes}
+use Rattle.stationing.specs.Stations.{straightAt}
+use Rattle.stationing.specs.Answer.{stationsAnswer, stationsRow}
+use Rattle.stationing.proofs.Examples.{caseLine, noCurve, row}
+use Rattle.stationing.proofs.Examples as lines
 use Rattle.report.specs.Numbers.{ascii}
 use Rattle.report.proofs.Examples as texts
 use Rattle.station_report.specs.Report.{lineText, sheetText}

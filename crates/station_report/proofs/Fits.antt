@@ -11,15 +11,15 @@ use Rattle.refusals.proofs.Filled.{never}
 use Rattle.refusals.proofs.Numbers.{Refuses, joined-numbers, wider}
 use Rattle.refusals.proofs.Joining.{passed-right}
 use Rattle.line.specs.declared.Line.{Line}
-use Rattle.sheet.specs.Layout.{firstEdition}
-use Rattle.sheet.specs.Reading.{lineOf, readOutcome, lineAfter, readLine}
-use Rattle.sheet.proofs.Frames.{count-below}
+use Rattle.packed_sheet.specs.Layout.{firstEdition}
+use Rattle.packed_sheet.specs.Reading.{lineOf, readOutcome, lineAfter, readLine}
+use Rattle.packed_sheet.proofs.Frames.{count-below}
 use Rattle.round_trips.proofs.Numbers.{read-numbers}
-use Rattle.calculator.specs.Stations.{stationRow}
-use Rattle.calculator.specs.Answer.{alignmentOutcome}
-use Rattle.calculator.proofs.Accepted.{few}
+use Rattle.stationing.specs.Stations.{stationRow}
+use Rattle.stationing.specs.Answer.{alignmentOutcome}
+use Rattle.stationing.proofs.Accepted.{few}
 use Rattle.orders.proofs.InOrder.{in-order}
-use Rattle.calculator.proofs.WaysOut.{row-count}
+use Rattle.stationing.proofs.WaysOut.{row-count}
 use Rattle.orders.proofs.Numbers.{alignment-numbers}
 use Rattle.report.specs.Text.{textOutcome, textAnswer}
 use Rattle.report.proofs.Short.{list-short, refusal-short}

@@ -9,12 +9,12 @@ use borrow.Author.Tests.{le-leb}
 use Rattle.refusals.specs.Outcomes.{Outcome, passed, refused, _▹_}
 use Rattle.refusals.specs.Filling.{FillReply, filled, unfilled}
 use Rattle.line.specs.declared.Line.{Line}
-use Rattle.sheet.specs.Layout.{firstEdition}
-use Rattle.sheet.specs.Reading.{readOutcome, readLine}
-use Rattle.calculator.specs.Stations.{stationRow}
-use Rattle.calculator.specs.Answer.{alignmentOutcome, stationCount, roomCheck, stationsOutcome, stationsAnswer, stationsRow}
-use Rattle.calculator.proofs.Accepted.{few}
-use Rattle.calculator.proofs.WaysOut.{row-count}
+use Rattle.packed_sheet.specs.Layout.{firstEdition}
+use Rattle.packed_sheet.specs.Reading.{readOutcome, readLine}
+use Rattle.stationing.specs.Stations.{stationRow}
+use Rattle.stationing.specs.Answer.{alignmentOutcome, stationCount, roomCheck, stationsOutcome, stationsAnswer, stationsRow}
+use Rattle.stationing.proofs.Accepted.{few}
+use Rattle.stationing.proofs.WaysOut.{row-count}
 use Rattle.orders.proofs.Replies.{counted, refused-stations}
 use Rattle.report.specs.Text.{stationList, refusalLine, textAnswer, textBytes}
 use Rattle.station_report.specs.Report.{answerText, lineText, sheetOutcome, sheetText}

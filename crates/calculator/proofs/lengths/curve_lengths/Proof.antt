@@ -8,11 +8,11 @@ use Rattle.refusals.proofs.Joining.{not-both}
 use Rattle.line.specs.Checks.{curveAt}
 use Rattle.elements.specs.Answer.{replyOf}
 use Rattle.elements.proofs.Replies.{found-elements}
-use Rattle.calculator.specs.Stations.{tangentAt, arcAt}
-use Rattle.calculator.specs.Answer.{curveCheck}
-use Rattle.calculator.specs.Lengths.{TangentsTo, ArcsTo}
-use Rattle.calculator.proofs.Fronts.{front-empty, front-more}
-use Rattle.calculator.proofs.CurveSteps.{least-refused, arc-refused, curve-passed}
+use Rattle.stationing.specs.Stations.{tangentAt, arcAt}
+use Rattle.stationing.specs.Answer.{curveCheck}
+use Rattle.stationing.specs.Arrays.{TangentsTo, ArcsTo}
+use Rattle.stationing.proofs.Fronts.{front-empty, front-more}
+use Rattle.stationing.proofs.CurveSteps.{least-refused, arc-refused, curve-passed}
 use Rattle.calculator.proofs.lengths.curve_lengths.Statement.{statement}
 use Rattle.calculator.proofs.lengths.curve_lengths.Tie as tie
 

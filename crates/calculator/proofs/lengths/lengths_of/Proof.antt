@@ -3,8 +3,8 @@ use mathlib.Core.Path.{sym, _∙_, ap, subst}
 use Rattle.refusals.specs.Outcomes.{outcomeOf}
 use Rattle.refusals.proofs.Joining.{refused-first, passed-first, not-both}
 use Rattle.line.proofs.InRange.{line-in-range}
-use Rattle.calculator.specs.Answer.{alignmentOutcome}
-use Rattle.calculator.specs.Lengths.{ArcsTo}
+use Rattle.stationing.specs.Answer.{alignmentOutcome}
+use Rattle.stationing.specs.Arrays.{ArcsTo}
 use borrow.Author.Needs.{needs}
 use Rattle.calculator.proofs.lengths.lengths_of.Statement.{statement}
 use Rattle.calculator.proofs.lengths.lengths_of.Tie as tie

@@ -9,12 +9,12 @@ use Rattle.numbers.proofs.Ranges.{at-most}
 use Rattle.refusals.specs.Outcomes.{passed, firstOf}
 use Rattle.refusals.proofs.Joining.{not-both}
 use Rattle.refusals.proofs.InTurn.{one-more, first-refused}
-use Rattle.calculator.specs.Stations.{tangentBefore}
-use Rattle.calculator.specs.Answer.{straightCheck}
-use Rattle.calculator.specs.Lengths.{StraightsTo}
-use Rattle.calculator.proofs.Accepted.{before-between, after-between}
-use Rattle.calculator.proofs.Fronts.{front-empty, front-more}
-use Rattle.calculator.proofs.StraightSteps.{after-distance, before-next, short-straight, long-straight, straight-length}
+use Rattle.stationing.specs.Stations.{tangentBefore}
+use Rattle.stationing.specs.Answer.{straightCheck}
+use Rattle.stationing.specs.Arrays.{StraightsTo}
+use Rattle.stationing.proofs.Accepted.{before-between, after-between}
+use Rattle.stationing.proofs.Fronts.{front-empty, front-more}
+use Rattle.stationing.proofs.StraightSteps.{after-distance, before-next, short-straight, long-straight, straight-length}
 use Rattle.calculator.proofs.lengths.with_straights.Statement.{statement}
 use Rattle.calculator.proofs.lengths.with_straights.Tie as tie
 

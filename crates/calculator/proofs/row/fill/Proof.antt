@@ -1,8 +1,8 @@
 -- `fill`: one case for each way out. Assumes nothing.
-use Rattle.calculator.proofs.WaysOut.{small-row, filled-row}
+use Rattle.stationing.proofs.WaysOut.{small-row, filled-row}
 use borrow.Author.Needs.{needs}
 use native.Mathlib.Omega.{arith}
-use Rattle.calculator.proofs.Accepted.{few}
+use Rattle.stationing.proofs.Accepted.{few}
 use Rattle.calculator.proofs.row.fill.Statement.{statement}
 use Rattle.calculator.proofs.row.fill.Tie as tie
 

@@ -2,9 +2,9 @@
 use mathlib.Core.Path.{sym, _∙_, ap}
 use Rattle.refusals.specs.Outcomes.{Outcome, outcomeOf}
 use Rattle.refusals.specs.Filling.{countAfter, bufferAfter}
-use Rattle.calculator.specs.Stations.{stationRow}
-use Rattle.calculator.specs.Answer.{stationCount, stationsAnswer, stationsRow}
-use Rattle.calculator.proofs.WaysOut.{refused-line, passed-line}
+use Rattle.stationing.specs.Stations.{stationRow}
+use Rattle.stationing.specs.Answer.{stationCount, stationsAnswer, stationsRow}
+use Rattle.stationing.proofs.WaysOut.{refused-line, passed-line}
 use borrow.Author.Needs.{needs}
 use Rattle.calculator.proofs.row.stations.Statement.{statement}
 use Rattle.calculator.proofs.row.stations.Tie as tie

@@ -1,7 +1,7 @@
 -- `friction`: the table passes the test of its rule. Assumes nothing.
 use mathlib.Core.Path.{refl}
-use Rattle.calculator.specs.RoadTables.{frictions, underSpeed, frictionAt}
-use Rattle.calculator.proofs.TableRule.{tabled}
+use Rattle.stationing.specs.RoadTables.{frictions, underSpeed, frictionAt}
+use Rattle.stationing.proofs.TableRule.{tabled}
 use borrow.Author.Needs.{needs}
 use Rattle.calculator.proofs.tables.friction.Statement.{statement}
 use Rattle.calculator.proofs.tables.friction.Tie as tie

@@ -1,7 +1,7 @@
 -- `least_spiral`: the table passes the test of its rule. Assumes nothing.
 use mathlib.Core.Path.{refl}
-use Rattle.calculator.specs.RoadTables.{leastSpirals, underSpeed, leastSpiralAt}
-use Rattle.calculator.proofs.TableRule.{tabled}
+use Rattle.stationing.specs.RoadTables.{leastSpirals, underSpeed, leastSpiralAt}
+use Rattle.stationing.proofs.TableRule.{tabled}
 use borrow.Author.Needs.{needs}
 use Rattle.calculator.proofs.tables.least_spiral.Statement.{statement}
 use Rattle.calculator.proofs.tables.least_spiral.Tie as tie

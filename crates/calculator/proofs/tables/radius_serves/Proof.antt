@@ -4,7 +4,7 @@ use Prim.Native.Nat.{ℕ, _+_, _*_}
 use native.Mathlib.Nat.{mul-le-mul}
 use native.Mathlib.Omega.{arith}
 use lib.Dec.{leb}
-use Rattle.calculator.specs.RoadTables.{radiusServes}
+use Rattle.stationing.specs.RoadTables.{radiusServes}
 use borrow.Author.Needs.{needs}
 use Rattle.calculator.proofs.tables.radius_serves.Statement.{statement}
 use Rattle.calculator.proofs.tables.radius_serves.Tie as tie

@@ -1,7 +1,7 @@
 -- `spiral_serves`: one case for each way out. Assumes nothing.
 use native.Mathlib.Nat.{mul-le-mul}
 use native.Mathlib.Omega.{arith}
-use Rattle.calculator.proofs.LeastSpiral.{no-spiral, below-table, at-table}
+use Rattle.stationing.proofs.LeastSpiral.{no-spiral, below-table, at-table}
 use borrow.Author.Needs.{needs}
 use Rattle.calculator.proofs.tables.spiral_serves.Statement.{statement}
 use Rattle.calculator.proofs.tables.spiral_serves.Tie as tie

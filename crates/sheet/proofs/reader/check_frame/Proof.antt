@@ -2,8 +2,8 @@
 use mathlib.Core.Path.{_∙_, ap}
 use borrow.Author.Needs.{needs}
 use Rattle.refusals.specs.Outcomes.{Outcome, outcomeOf, _▹_}
-use Rattle.sheet.specs.Layout.{firstEdition}
-use Rattle.sheet.proofs.Frames.{framed-by, count-below}
+use Rattle.packed_sheet.specs.Layout.{firstEdition}
+use Rattle.packed_sheet.proofs.Frames.{framed-by, count-below}
 use Rattle.sheet.proofs.reader.check_frame.Statement.{statement}
 use Rattle.sheet.proofs.reader.check_frame.Tie as tie
 

@@ -1,8 +1,8 @@
 -- `check_size` meets its contract. Assumes nothing.
 use native.Mathlib.Omega.{arith}
 use borrow.Author.Needs.{needs}
-use Rattle.sheet.specs.Layout.{firstEdition}
-use Rattle.sheet.proofs.Frames.{too-short, too-long, whole}
+use Rattle.packed_sheet.specs.Layout.{firstEdition}
+use Rattle.packed_sheet.proofs.Frames.{too-short, too-long, whole}
 use Rattle.sheet.proofs.reader.check_size.Statement.{statement}
 use Rattle.sheet.proofs.reader.check_size.Tie as tie
 

@@ -4,9 +4,9 @@ use borrow.Author.Needs.{needs}
 use Rattle.refusals.specs.declared.Verdict.the-variants.{Refused}
 use Rattle.refusals.specs.declared.Refusal.the-variants.{Truncated}
 use Rattle.refusals.specs.Outcomes.{outcomeOf}
-use Rattle.sheet.specs.Layout.{firstEdition}
-use Rattle.sheet.proofs.Frames.{no-head}
-use Rattle.sheet.proofs.WaysOut.{line-beside, frame-refused, line-checked}
+use Rattle.packed_sheet.specs.Layout.{firstEdition}
+use Rattle.packed_sheet.proofs.Frames.{no-head}
+use Rattle.packed_sheet.proofs.WaysOut.{line-beside, frame-refused, line-checked}
 use Rattle.sheet.proofs.reader.read.Statement.{statement}
 use Rattle.sheet.proofs.reader.read.Tie as tie
 

@@ -1,7 +1,7 @@
 -- `read_head` meets its contract. Assumes nothing.
 use borrow.Author.Needs.{needs}
 use Rattle.bits.specs.Bits.{valuesAt}
-use Rattle.sheet.specs.Reading.{headOf}
+use Rattle.packed_sheet.specs.Reading.{headOf}
 use Rattle.sheet.proofs.reader.read_head.Statement.{statement}
 use Rattle.sheet.proofs.reader.read_head.Tie as tie
 

@@ -4,11 +4,11 @@ use Prim.Native.Nat.{ℕ, _-_, _*_, _≤_}
 use native.Mathlib.Omega.{arith}
 use borrow.Author.Needs.{needs}
 use lib.ListN.{length}
-use Rattle.sheet.specs.declared.reader.Head.{Head}
-use Rattle.sheet.specs.Layout.{firstEdition, bitCount}
-use Rattle.sheet.specs.Reading.{countOf}
-use Rattle.sheet.proofs.Frames.{framed}
-use Rattle.sheet.proofs.LineSteps.{lineTo, line-begun, entry-read, last-read}
+use Rattle.packed_sheet.specs.declared.Head.{Head}
+use Rattle.packed_sheet.specs.Layout.{firstEdition, bitCount}
+use Rattle.packed_sheet.specs.Reading.{countOf}
+use Rattle.packed_sheet.proofs.Frames.{framed}
+use Rattle.packed_sheet.proofs.LineSteps.{lineTo, line-begun, entry-read, last-read}
 use Rattle.sheet.proofs.reader.read_line.Statement.{statement}
 use Rattle.sheet.proofs.reader.read_line.Tie as tie
 

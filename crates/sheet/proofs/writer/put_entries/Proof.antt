@@ -5,9 +5,9 @@ use native.Mathlib.Omega.{arith}
 use lib.ListN.{length}
 use Rattle.line.specs.Ranges.{LineInRange}
 use Rattle.line.proofs.InRange.{line-in-range}
-use Rattle.sheet.specs.Writing.{entriesAfter}
+use Rattle.packed_sheet.specs.Writing.{entriesAfter}
 use Rattle.sheet.specs.Pens.{Put, position}
-use Rattle.sheet.proofs.Fitting.{entry-fits}
+use Rattle.packed_sheet.proofs.Fitting.{entry-fits}
 use Rattle.sheet.proofs.Pens.{put-none, put-put, put-as}
 use Rattle.sheet.proofs.SheetSteps.{entry-after}
 use Rattle.sheet.proofs.writer.put_entries.Statement.{statement}

@@ -5,7 +5,7 @@ use Prim.Native.Nat.{ℕ}
 use native.Mathlib.Omega.{arith}
 use borrow.Author.Needs.{needs}
 use Rattle.bits.specs.Bits.{packed}
-use Rattle.sheet.specs.Layout.{entryWidths}
+use Rattle.packed_sheet.specs.Layout.{entryWidths}
 use Rattle.sheet.proofs.Pens.{put-put, put-as}
 use Rattle.sheet.proofs.writer.put_entry.Statement.{statement}
 use Rattle.sheet.proofs.writer.put_entry.Tie as tie

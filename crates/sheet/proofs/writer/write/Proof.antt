@@ -6,9 +6,9 @@ use Rattle.refusals.specs.Outcomes.{outcomeOf}
 use Rattle.refusals.specs.Filling.{filled}
 use Rattle.refusals.proofs.FillWays.{refused-by-checks, too-small, filled-whole}
 use Rattle.line.proofs.InRange.{line-in-range}
-use Rattle.sheet.specs.Layout.{firstEdition}
-use Rattle.sheet.specs.Writing.{sheetOf, writeOutcome, writeAnswer, writeBytes}
-use Rattle.sheet.proofs.WaysOut.{sheet-length}
+use Rattle.packed_sheet.specs.Layout.{firstEdition}
+use Rattle.packed_sheet.specs.Writing.{sheetOf, writeOutcome, writeAnswer, writeBytes}
+use Rattle.packed_sheet.proofs.WaysOut.{sheet-length}
 use Rattle.sheet.proofs.writer.write.Statement.{statement}
 use Rattle.sheet.proofs.writer.write.Tie as tie
 

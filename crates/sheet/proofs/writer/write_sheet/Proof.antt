@@ -4,8 +4,8 @@ use native.Mathlib.Omega.{arith}
 use lib.Pow.{pow-pos}
 use Rattle.line.specs.Ranges.{LineInRange}
 use Rattle.line.proofs.InRange.{line-in-range}
-use Rattle.sheet.specs.Layout.{firstEdition}
-use Rattle.sheet.proofs.Fitting.{first-holds, head-fits, distance-fits}
+use Rattle.packed_sheet.specs.Layout.{firstEdition}
+use Rattle.packed_sheet.proofs.Fitting.{first-holds, head-fits, distance-fits}
 use Rattle.sheet.proofs.SheetSteps.{sheet-written}
 use borrow.Author.Needs.{needs}
 use Rattle.sheet.proofs.writer.write_sheet.Statement.{statement}

@@ -7,7 +7,7 @@ use native.Mathlib.Omega.{arith}
 use lib.IntN.{ℤ, pos}
 use lib.ListN.{length, getD, set, replicate, getD-replicate, length-replicate, length-set, List·getD-eq-default}
 use lib.Seq.{getD-set-same, getD-set-other}
-use Rattle.calculator.specs.Lengths.{Front}
+use Rattle.stationing.specs.Arrays.{Front}
 
 zeros : (size k : ℕ) → _≡_ {A = ℕ} (getD (replicate size 0) k 0) 0
 zeros size k = go (decLt k size)

@@ -9,9 +9,9 @@ use Rattle.line.specs.declared.Curve.{Curve}
 use Rattle.line.specs.declared.Line.{Line}
 use Rattle.line.specs.Checks.{headOutcome, bodyOutcome, blankCurve}
 use Rattle.line.specs.Entries.{entries, blankLine}
-use Rattle.sheet.specs.declared.reader.Head.{Head}
+use Rattle.packed_sheet.specs.declared.Head.{Head}
 use Rattle.bits.specs.Bits.{bitsAt, valuesAt}
-use Rattle.sheet.specs.Layout.{Edition, headWidths, distanceWidth, curveWidths, entryAt, bitCount, byteCount, fillWidth}
+use Rattle.packed_sheet.specs.Layout.{Edition, headWidths, distanceWidth, curveWidths, entryAt, bitCount, byteCount, fillWidth}
 
 -- The head of its fields, in order: edition, n, V, e, start.
 abbrev pub headFrom : List ℕ → Head

@@ -1,4 +1,4 @@
--- Laws that the proofs of the calculator cite, and single lines by computation.
+-- Laws of the stations that the proofs of `calculator` cite, and single lines by computation.
 pub mod TableRule
 pub mod LeastSpiral
 pub mod Fronts

@@ -10,8 +10,8 @@ use Rattle.refusals.specs.Filling.{FillReply, countAfter, bufferAfter}
 use Rattle.line.specs.declared.Line.{Line}
 use Rattle.line.specs.Checks.{curveAt, lineOutcome}
 use Rattle.elements.specs.Answer.{arcOutcome}
-use Rattle.calculator.specs.RoadTables.{radiusServes, spiralServes}
-use Rattle.calculator.specs.Stations.{straightAt, stationRow}
+use Rattle.stationing.specs.RoadTables.{radiusServes, spiralServes}
+use Rattle.stationing.specs.Stations.{straightAt, stationRow}
 
 -- 12, 13, 14 of a curve at the design speed v and the crossfall e
 unfoldable pub designOutcome : (v e A R L place : ℕ) → Outcome

@@ -5,8 +5,8 @@ use Rattle.numbers.specs.Whole.{Between}
 use Rattle.numbers.proofs.Ranges.{natural, widen, sum-between}
 use Rattle.line.specs.declared.Line.{Line}
 use Rattle.line.specs.Checks.{curveAt}
-use Rattle.calculator.specs.Stations.{spiralAt, formerST}
-use Rattle.calculator.proofs.Accepted.{Accepted}
+use Rattle.stationing.specs.Stations.{spiralAt, formerST}
+use Rattle.stationing.proofs.Accepted.{Accepted}
 
 module _ (line : Line) (ok : Accepted line) where
   -- L, and the ST before distance i.

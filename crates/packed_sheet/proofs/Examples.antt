@@ -12,9 +12,9 @@ use Rattle.line.specs.declared.Line.{Line}
 use Rattle.line.specs.Checks.{startOutcome, headOutcome, distanceOutcome, blankCurve, curveOutcome, bodyOutcome, lineOutcome}
 use Rattle.line.specs.Entries.{entries, blankLine}
 use Rattle.bits.specs.Bits.{valueOf, bytesOf, bitsAt, valuesAt, packed}
-use Rattle.sheet.specs.Layout.{firstEdition, bitCount, byteCount}
-use Rattle.sheet.specs.Reading.{headOf, distanceOf, curveOf, lineOf, sizeOutcome, frameOutcome, readOutcome, readLine}
-use Rattle.sheet.specs.Writing.{entriesAfter, numberTo, sheetNumber, sheetOf, writeOutcome, writeAnswer, writeBytes}
+use Rattle.packed_sheet.specs.Layout.{firstEdition, bitCount, byteCount}
+use Rattle.packed_sheet.specs.Reading.{headOf, distanceOf, curveOf, lineOf, sizeOutcome, frameOutcome, readOutcome, readLine}
+use Rattle.packed_sheet.specs.Writing.{entriesAfter, numberTo, sheetNumber, sheetOf, writeOutcome, writeAnswer, writeBytes}
 
 -- Case 9: "V 70, e 8, start 0, no curve, distance 500,000". The fill is the rest of the last byte.
 abbrev nineBytes : List ℕ

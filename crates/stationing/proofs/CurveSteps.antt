@@ -17,8 +17,8 @@ use Rattle.elements.specs.declared.ElementAnswer.the-variants as ElementAnswer
 use Rattle.elements.specs.Answer.{replyOf, arcOutcome, elementOutcome, elementReply}
 use Rattle.elements.proofs.Arc.{arc-anywhere}
 use Rattle.elements.proofs.Replies.{FoundElements, refused-arc}
-use Rattle.calculator.specs.RoadTables.{radiusServes, spiralServes}
-use Rattle.calculator.specs.Answer.{designOutcome, curveCheck}
+use Rattle.stationing.specs.RoadTables.{radiusServes, spiralServes}
+use Rattle.stationing.specs.Answer.{designOutcome, curveCheck}
 
 -- 12 and 13 of the curve at entry i.
 abbrev pub leastCheck : Line → ℕ → ℕ → Outcome

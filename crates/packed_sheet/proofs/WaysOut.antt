@@ -10,11 +10,11 @@ use Rattle.refusals.specs.Outcomes.{Outcome, passed, outcomeOf}
 use Rattle.refusals.proofs.Joining.{passed-left, refused-first}
 use Rattle.line.specs.declared.Line.{Line}
 use Rattle.line.specs.Checks.{lineOutcome}
-use Rattle.sheet.specs.Layout.{Edition, byteCount}
-use Rattle.sheet.specs.Reading.{lineOf, frameOutcome, readOutcome, lineAfter, readLine}
-use Rattle.sheet.specs.Writing.{sheetNumber, sheetOf}
+use Rattle.packed_sheet.specs.Layout.{Edition, byteCount}
+use Rattle.packed_sheet.specs.Reading.{lineOf, frameOutcome, readOutcome, lineAfter, readLine}
+use Rattle.packed_sheet.specs.Writing.{sheetNumber, sheetOf}
 use Rattle.bits.proofs.Bytes.{length-bytes}
-use Rattle.sheet.proofs.Frames.{framed}
+use Rattle.packed_sheet.proofs.Frames.{framed}
 
 -- ---- the reader
 

@@ -10,7 +10,7 @@ use lib.ListN.{length, getD}
 use borrow.Author.Tests.{eqb-true, leb-true}
 use Rattle.numbers.proofs.Tests.{both-left, both-right}
 use Rattle.numbers.proofs.Tables.{everywhere, at-entry}
-use Rattle.calculator.specs.RoadTables.{speeds, underSpeed}
+use Rattle.stationing.specs.RoadTables.{speeds, underSpeed}
 
 -- The test: entry k is the one under the speed 40 + 10 × k, and not above 100.
 abbrev pub follows : List ℕ → ℕ → ℕ → Bool

@@ -8,9 +8,9 @@ use lib.IntN.{pos, natAbs, _+ℤ_}
 use lib.ListN.{length, take, drop, getD, set, length-append}
 use lib.Seq.{set-at, take-at, drop-at, drop-cons, drop-drop, append-snoc}
 use Rattle.line.specs.declared.Line.{Line}
-use Rattle.calculator.specs.Stations.{spiralAt, arcAt, straightAt, formerST, pointsAt, endOf, curveStations, stationsOf, stationRow}
-use Rattle.calculator.specs.Answer.{stationCount}
-use Rattle.calculator.specs.Lengths.{fourFrom}
+use Rattle.stationing.specs.Stations.{spiralAt, arcAt, straightAt, formerST, pointsAt, endOf, curveStations, stationsOf, stationRow}
+use Rattle.stationing.specs.Answer.{stationCount}
+use Rattle.stationing.specs.Arrays.{fourFrom}
 
 -- The numbers of the first i curves.
 abbrev pub numbersTo : Line → ℕ → List ℕ

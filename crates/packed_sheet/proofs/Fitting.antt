@@ -6,8 +6,8 @@ use Rattle.line.specs.Checks.{distanceAt, curveAt}
 use Rattle.line.specs.Ranges.{LineInRange}
 use Rattle.line.proofs.Sides.{side-fits}
 use Rattle.bits.specs.Bits.{Fit}
-use Rattle.sheet.specs.Layout.{Edition, firstEdition, Holds, headWidths, distanceWidth, entryWidths}
-use Rattle.sheet.specs.Writing.{headValues, entryValues}
+use Rattle.packed_sheet.specs.Layout.{Edition, firstEdition, Holds, headWidths, distanceWidth, entryWidths}
+use Rattle.packed_sheet.specs.Writing.{headValues, entryValues}
 
 module _ (line : Line) (ok : LineInRange line) where
   pub head-fits : (E : Edition) → Holds E → Fit (headWidths E) (headValues E line)

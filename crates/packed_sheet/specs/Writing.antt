@@ -10,7 +10,7 @@ use Rattle.line.specs.declared.Line.{Line}
 use Rattle.line.specs.Checks.{distanceAt, curveAt, lineOutcome}
 use Rattle.line.specs.Entries.{sideBit}
 use Rattle.bits.specs.Bits.{packed, bytesOf}
-use Rattle.sheet.specs.Layout.{Edition, headWidths, distanceWidth, entryWidths, byteCount, fillWidth}
+use Rattle.packed_sheet.specs.Layout.{Edition, headWidths, distanceWidth, entryWidths, byteCount, fillWidth}
 
 -- The head's fields: edition, n, V, e, start.
 abbrev pub headValues : Edition → Line → List ℕ

@@ -14,9 +14,9 @@ use Rattle.numbers.proofs.Differences.{minus-le, minus-minus, reaches}
 use Rattle.refusals.specs.Outcomes.{passed, refused}
 use Rattle.line.specs.declared.Line.{Line}
 use Rattle.line.specs.Checks.{distanceAt}
-use Rattle.calculator.specs.Stations.{tangentAt, tangentBefore, tangentAfter, straightAt}
-use Rattle.calculator.specs.Answer.{straightCheck}
-use Rattle.calculator.specs.Lengths.{TangentsTo}
+use Rattle.stationing.specs.Stations.{tangentAt, tangentBefore, tangentAfter, straightAt}
+use Rattle.stationing.specs.Answer.{straightCheck}
+use Rattle.stationing.specs.Arrays.{TangentsTo}
 
 -- The tangent after distance i, by cases.
 module _ (line : Line) (i : ℕ) where

@@ -17,10 +17,10 @@ use Rattle.line.proofs.InRange.{line-in-range, curve-passes}
 use Rattle.elements.specs.Answer.{arcOutcome, elementOutcome}
 use Rattle.elements.proofs.Bounds.{bounds}
 use Rattle.elements.proofs.Arc.{arc-anywhere, arc-answered}
-use Rattle.calculator.specs.RoadTables.{radiusServes, spiralServes}
-use Rattle.calculator.specs.Stations.{arcAt, tangentAt, tangentBefore, tangentAfter, straightAt}
-use Rattle.calculator.specs.Answer.{designOutcome, curveCheck, straightCheck, alignmentOutcome}
-use Rattle.calculator.proofs.StraightSteps.{after-inside, after-end, straight-reaches, straight-length}
+use Rattle.stationing.specs.RoadTables.{radiusServes, spiralServes}
+use Rattle.stationing.specs.Stations.{arcAt, tangentAt, tangentBefore, tangentAfter, straightAt}
+use Rattle.stationing.specs.Answer.{designOutcome, curveCheck, straightCheck, alignmentOutcome}
+use Rattle.stationing.proofs.StraightSteps.{after-inside, after-end, straight-reaches, straight-length}
 
 pub record Accepted (line : Line) : Type 0 where
   pub in-range : LineInRange line

@@ -14,9 +14,9 @@ use Rattle.refusals.specs.Filling.{filled, unfilled, countAfter, bufferAfter}
 use Rattle.refusals.proofs.Joining.{passed-first}
 use Rattle.refusals.proofs.FillWays.{refused-by-checks, too-small, filled-whole}
 use Rattle.line.specs.declared.Line.{Line}
-use Rattle.calculator.specs.Stations.{curveStations, stationsOf, stationRow}
-use Rattle.calculator.specs.Answer.{alignmentOutcome, stationCount, roomCheck, stationsOutcome, stationsAnswer, stationsRow}
-use Rattle.calculator.proofs.RowSteps.{numbersTo, numbers-length}
+use Rattle.stationing.specs.Stations.{curveStations, stationsOf, stationRow}
+use Rattle.stationing.specs.Answer.{alignmentOutcome, stationCount, roomCheck, stationsOutcome, stationsAnswer, stationsRow}
+use Rattle.stationing.proofs.RowSteps.{numbersTo, numbers-length}
 
 -- There are 4 × n + 1 stations.
 pub row-count : (line : Line) → length (stationRow line) ≡ stationCount line

@@ -10,10 +10,10 @@ use Rattle.line.specs.declared.Line.{Line}
 use Rattle.line.specs.Checks.{blankCurve}
 use Rattle.line.specs.Entries.{entries, blankLine}
 use Rattle.line.proofs.Entries.{entries-set}
-use Rattle.sheet.specs.declared.reader.Head.{Head}
+use Rattle.packed_sheet.specs.declared.Head.{Head}
 use Rattle.bits.specs.Bits.{bitsAt, valuesAt}
-use Rattle.sheet.specs.Layout.{Edition, distanceWidth, curveWidths, entryAt}
-use Rattle.sheet.specs.Reading.{headOf, countOf, distanceOf, curveFrom, curveOf, lineOf}
+use Rattle.packed_sheet.specs.Layout.{Edition, distanceWidth, curveWidths, entryAt}
+use Rattle.packed_sheet.specs.Reading.{headOf, countOf, distanceOf, curveFrom, curveOf, lineOf}
 
 -- A line of a head, distances and curves.
 abbrev pub lineWith : Head → List ℕ → List Curve → Line

@@ -12,11 +12,11 @@ use Rattle.refusals.specs.Outcomes.{Outcome, passed, refused, need, _▹_}
 use Rattle.refusals.proofs.Joining.{passed-left, passed-right, need-holds, join}
 use Rattle.line.specs.Checks.{headOutcome}
 use Rattle.line.proofs.InRange.{few-curves}
-use Rattle.sheet.specs.declared.reader.Head.{Head}
+use Rattle.packed_sheet.specs.declared.Head.{Head}
 use Rattle.bits.specs.Bits.{bitsAt, valuesAt}
-use Rattle.sheet.specs.Layout.{Edition, bitCount, byteCount, fillWidth}
+use Rattle.packed_sheet.specs.Layout.{Edition, bitCount, byteCount, fillWidth}
 use Rattle.bits.proofs.Fields.{bits-lt}
-use Rattle.sheet.specs.Reading.{headOf, countOf, sizeOutcome, frameOutcome}
+use Rattle.packed_sheet.specs.Reading.{headOf, countOf, sizeOutcome, frameOutcome}
 
 module _ (E : Edition) (s : List ℕ) where
   -- ---- 1 (full length) and 7

@@ -4,7 +4,7 @@ use mathlib.Core.Bool.{true, false}
 use Prim.Native.Nat.{ℕ, _*_, _<_, _≤_}
 use lib.Dec.{leb}
 use borrow.Author.Tests.{le-leb, lt-leb, eq-eqb, ne-eqb}
-use Rattle.calculator.specs.RoadTables.{leastSpiralAt, spiralServes}
+use Rattle.stationing.specs.RoadTables.{leastSpiralAt, spiralServes}
 
 pub no-spiral : (v R L : ℕ) → L ≡ 0 → true ≡ spiralServes v R L
 unfolding spiralServes

@@ -1,0 +1,4 @@
+-- What the contracts of `sheet` and the laws on sheets cite.
+pub mod Layout
+pub mod Reading
+pub mod Writing
