@@ -34,14 +34,6 @@ module _ {A : Type 0} where
   entries-same (suc size) (suc used) f g z e =
       λ j. e 0 (omega arith) j ∷ entries-same size used (λ i. f (suc i)) (λ i. g (suc i)) z (λ i h. e (suc i) (omega arith)) j
 
-  -- More entries than there is room for are cut.
-  pub entries-full : (size used : ℕ) (f : ℕ → A) (z : A) → size ≤ used → entries size size f z ≡ entries size used f z
-  unfolding entries
-  entries-full zero zero f z h = refl
-  entries-full zero (suc used) f z h = refl
-  entries-full (suc size) zero f z h = absurd (omega arith)
-  entries-full (suc size) (suc used) f z h = ap (λ (xs : List A). f 0 ∷ xs) (entries-full size used (λ i. f (suc i)) z (omega arith))
-
   -- A list is its entries.
   pub entries-all : (xs : List A) (z : A) → entries (length xs) (length xs) (λ i. getD xs i z) z ≡ xs
   unfolding entries

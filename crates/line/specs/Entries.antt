@@ -3,6 +3,7 @@ use mathlib.Core.Bool.{Bool, true, false}
 use mathlib.Core.List.{List, [], _∷_}
 use Prim.Native.Nat.{ℕ, zero, suc}
 use lib.ListN.{replicate}
+use Rattle.refusals.specs.Outcomes.{Outcome, passed, refused}
 use Rattle.line.specs.declared.Line.{Line}
 use Rattle.line.specs.Checks.{distanceAt, blankCurve, curveAt}
 
@@ -21,6 +22,11 @@ entries (suc size) (suc used) f blank = f 0 ∷ entries size used (λ i. f (suc 
 abbrev pub blankLine : Line
 blankLine =
     record { speed = 0; crossfall = 0; start = 0; count = 0; distances = replicate 65 0; curves = replicate 64 blankCurve }
+
+-- The line beside the outcome of the checks: after a refusal all its fields are zero (docs/DECISIONS.md).
+abbrev pub lineAfter : Outcome → Line → Line
+lineAfter passed line = line
+lineAfter (refused number place) line = blankLine
 
 -- "comes back with its unused entries zero": the line with the used entries alone
 unfoldable pub cleared : Line → Line

@@ -2,7 +2,7 @@
 mod checks;
 
 ghost use mathlib.Core.Path.{_≡_};
-ghost use Rattle.line.specs.Entries.{sideBit};
+ghost use Rattle.line.specs.Entries.{sideBit, blankLine};
 pub use checks::check_curve;
 pub use checks::check_head;
 pub use checks::check_line;
@@ -41,4 +41,23 @@ pub fn side_bit(left: bool) -> u32
     ensures { λ r. ⌜ r ≡ sideBit left ⌝ }
 {
     if left { 1 } else { 0 }
+}
+
+// A line without curves, all its fields zero.
+pub fn blank_line() -> Line
+    ensures { λ r. ⌜ r ≡ blankLine ⌝ }
+{
+    Line {
+        speed: 0,
+        crossfall: 0,
+        start: 0,
+        count: 0,
+        distances: [0; 65],
+        curves: [Curve {
+            left: false,
+            deflection: 0,
+            radius: 0,
+            spiral: 0,
+        }; 64],
+    }
 }

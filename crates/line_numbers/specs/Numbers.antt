@@ -1,9 +1,8 @@
 -- A line as numbers, for callers in other languages: n, V, e, start, distance 0, then side, A, R, L and the distance after it for each curve,
 -- in document 01's units and in the order of its sheet. The form is this project's own (docs/library.md).
-use mathlib.Core.Path.{_≡_}
 use mathlib.Core.Bool.{_&&_, cond}
 use mathlib.Core.List.{List, [], _∷_, _++_}
-use Prim.Native.Nat.{ℕ, zero, suc, _+_, _*_, _≤_, _<_}
+use Prim.Native.Nat.{ℕ, zero, suc, _+_, _*_}
 use lib.Dec.{leb, eqb}
 use lib.ListN.{length, getD}
 use Rattle.refusals.specs.Outcomes.{Outcome, need, _▹_}
@@ -74,12 +73,6 @@ lineOf numbers =
       distances = entries 65 (suc (numberAt numbers 0)) (distanceOf numbers) 0;
       curves = entries 64 (numberAt numbers 0) (curveOf numbers) blankCurve;
     }
-
--- How many of `count` curves a line holds: all, or the 64 that it has room for.
-pub record Held (count held : ℕ) : Type 0 where
-  pub room : held ≤ 64
-  pub most : held ≤ count
-  pub all : held < 64 → held ≡ count
 
 -- 3: "n over 64", or other than the numbers of n curves
 unfoldable pub countOutcome : List ℕ → Outcome

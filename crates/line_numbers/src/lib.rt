@@ -3,6 +3,6 @@
 mod reader;
 mod writer;
 
-pub use reader::check_count;
-pub use reader::line_of;
-pub use writer::put_line;
+pub use reader::LineAnswer;
+pub use reader::read;
+pub use writer::write;

@@ -1,29 +1,31 @@
 // The line of numbers.
 ghost use mathlib.Core.Path.{_≡_};
-ghost use Prim.Native.Nat.{_<_, _≤_};
+ghost use Prim.Native.Nat.{_+_, _*_, _<_, _≤_};
+ghost use lib.ListN.{length};
 ghost use Rattle.refusals.specs.Outcomes.{outcomeOf};
-ghost use Rattle.line_numbers.specs.Numbers.{numberAt, turnOf, curveOf, Held, lineOf, countOutcome};
+ghost use Rattle.line.specs.Entries.{lineAfter};
+ghost use Rattle.line_numbers.specs.Numbers.{numberCount, numberAt, turnOf, curveOf, lineOf, countOutcome};
 use line::Curve;
 use line::Line;
+use line::blank_line;
 use refusals::Refusal;
 use refusals::Verdict;
 use refusals::must;
 
-// The number at an index; 0 where there is none.
-fn number_at(numbers: &[u32], index: usize) -> u32
-    ensures { λ r. ⌜ r ≡ numberAt (now (numbers .entry)) index ⌝ }
-{
-    if numbers.len() <= index {
-        return 0;
-    }
-    numbers[index]
+// What is answered for numbers: that they are those of n curves, and the line; or refusal 3, and a line whose fields are all zero.
+pub struct LineAnswer {
+    pub verdict: Verdict,
+    pub line: Line,
 }
 
-// Refusal 3: over 64 curves, or other than the 5 + 5 × n numbers of n curves, so that a line cut short is never taken for a whole one.
-pub fn check_count(numbers: &[u32]) -> Verdict
+// Refusal 3: over 64 curves, or other than the 5 + 5 × n numbers of n curves.
+fn check_count(numbers: &[u32]) -> Verdict
     ensures { λ r. ⌜ outcomeOf r ≡ countOutcome (now (numbers .entry)) ⌝ }
 {
-    let n = number_at(numbers, 0) as usize;
+    if numbers.len() < 1 {
+        return Verdict::Refused(Refusal::CurveCount);
+    }
+    let n = numbers[0] as usize;
     if 64 < n {
         return Verdict::Refused(Refusal::CurveCount);
     }
@@ -39,53 +41,53 @@ fn turn_of(side: u32, deflection: u32) -> u32
 
 // The curve of an entry.
 fn curve_of(numbers: &[u32], entry: usize) -> Curve
-    requires { ⌜ entry < 64 ⌝ }
+    requires { ⌜ (entry < 64) × (10 + 5 * entry ≤ length (now numbers)) ⌝ }
     ensures { λ r. ⌜ r ≡ curveOf (now (numbers .entry)) entry ⌝ }
 {
     let before = 5 * entry;
-    let side = number_at(numbers, 5 + before);
-    let deflection = number_at(numbers, 6 + before);
+    let side = numbers[5 + before];
     Curve {
         left: side == 1,
-        deflection: turn_of(side, deflection),
-        radius: number_at(numbers, 7 + before),
-        spiral: number_at(numbers, 8 + before),
+        deflection: turn_of(side, numbers[6 + before]),
+        radius: numbers[7 + before],
+        spiral: numbers[8 + before],
     }
 }
 
-// How many of `count` curves a line holds.
-fn held(count: usize) -> usize
-    ensures { λ r. ⌜ Held count r ⌝ }
-{
-    if count < 64 { count } else { 64 }
-}
-
-// The line of numbers, its unused entries zero. Any numbers are taken: those that are missing count as 0, and those behind the
-// 64th curve's as nothing.
-pub fn line_of(numbers: &[u32]) -> Line
+// The line of numbers that are those of n curves.
+fn line_of(numbers: &[u32]) -> Line
+    requires { ⌜ (numberAt (now numbers) 0 ≤ 64) × (length (now numbers) ≡ numberCount (numberAt (now numbers) 0)) ⌝ }
     ensures { λ r. ⌜ r ≡ lineOf (now (numbers .entry)) ⌝ }
 {
-    let n = number_at(numbers, 0) as usize;
-    let mut line = Line {
-        speed: number_at(numbers, 1),
-        crossfall: number_at(numbers, 2),
-        start: number_at(numbers, 3),
-        count: n,
-        distances: [0; 65],
-        curves: [Curve {
-            left: false,
-            deflection: 0,
-            radius: 0,
-            spiral: 0,
-        }; 64],
-    };
-    line.distances[0] = number_at(numbers, 4);
-    let used = held(n);
+    let n = numbers[0] as usize;
+    let mut line = blank_line();
+    line.count = n;
+    line.speed = numbers[1];
+    line.crossfall = numbers[2];
+    line.start = numbers[3];
+    line.distances[0] = numbers[4];
     let mut i = 0;
-    while i < used {
+    while i < n {
         line.curves[i] = curve_of(numbers, i);
         i += 1;
-        line.distances[i] = number_at(numbers, 4 + 5 * i);
+        line.distances[i] = numbers[4 + 5 * i];
     }
     line
+}
+
+// The line of numbers, its unused entries zero, or refusal 3, so that a line cut short is never taken for a whole one; a curve whose side is
+// neither 0 nor 1 has no deflection, which 9 refuses. Any numbers are taken; their ranges are checked by whoever takes the line.
+pub fn read(numbers: &[u32]) -> LineAnswer
+    ensures answer { λ r. ⌜ outcomeOf (r .verdict) ≡ countOutcome (now (numbers .entry)) ⌝ }
+    ensures line { λ r. ⌜ r .line ≡ lineAfter (countOutcome (now (numbers .entry))) (lineOf (now (numbers .entry))) ⌝ }
+{
+    let verdict = check_count(numbers);
+    let Verdict::Pass = verdict else {
+        return LineAnswer {
+            verdict,
+            line: blank_line(),
+        };
+    };
+    let line = line_of(numbers);
+    LineAnswer { verdict, line }
 }

@@ -56,7 +56,7 @@ fn store_line(line: Line, numbers: &mut [u32])
 
 // The numbers of a line at the front of `numbers`. Answers how many there are, 5 + 5 × n, or refusal 3, over 64 curves, then 16; a refusal
 // leaves `numbers` as they were. Any line and any numbers are taken; unused entries are ignored.
-pub fn put_line(line: Line, numbers: &mut [u32]) -> FillAnswer
+pub fn write(line: Line, numbers: &mut [u32]) -> FillAnswer
     ensures answer { λ a. ⌜ fillReplyOf a ≡ replyFor (fewOutcome line) (lineNumbers line) (length (now (numbers .entry))) ⌝ }
     ensures memory { λ _. ⌜ now (numbers .exit) ≡ bufferFor (fewOutcome line) (lineNumbers line) (now (numbers .entry)) ⌝ }
 {

@@ -9,9 +9,11 @@ use Rattle.refusals.specs.declared.Verdict.the-variants.{Pass, Refused}
 use Rattle.refusals.specs.Outcomes.{Outcome, passed, outcomeOf}
 use Rattle.refusals.proofs.Joining.{passed-left, refused-first}
 use Rattle.line.specs.declared.Line.{Line}
+use Rattle.line.specs.Entries.{lineAfter}
+use Rattle.line.proofs.Beside.{beside-verdict}
 use Rattle.line.specs.Checks.{lineOutcome}
 use Rattle.packed_sheet.specs.Layout.{Edition, byteCount}
-use Rattle.packed_sheet.specs.Reading.{lineOf, frameOutcome, readOutcome, lineAfter, readLine}
+use Rattle.packed_sheet.specs.Reading.{lineOf, frameOutcome, readOutcome, readLine}
 use Rattle.packed_sheet.specs.Writing.{sheetNumber, sheetOf}
 use Rattle.bits.proofs.Bytes.{length-bytes}
 use Rattle.packed_sheet.proofs.Frames.{framed}
@@ -29,7 +31,7 @@ module _ (E : Edition) (s : List ℕ) where
   pub line-beside : (v : Verdict) {w : Verdict} {line : Line} → outcomeOf v ≡ readOutcome E s → v ≡ w
       → line ≡ lineAfter (outcomeOf w) (lineOf E s) → line ≡ readLine E s
   unfolding readLine
-  line-beside v answer e l = l ∙ ap (λ (o : Outcome). lineAfter o (lineOf E s)) (sym (ap outcomeOf e) ∙ answer)
+  line-beside v answer e l = beside-verdict v (lineOf E s) answer e l
 
   -- 1 to 7 refuse.
   pub frame-refused : (v : Verdict) {r : Refusal} → outcomeOf v ≡ frameOutcome E s → v ≡ Refused r → outcomeOf v ≡ readOutcome E s

@@ -4,11 +4,11 @@ use mathlib.Core.List.{List}
 use Prim.Native.Nat.{ℕ, suc, _+_}
 use lib.Dec.{leb, eqb}
 use lib.ListN.{length, getD}
-use Rattle.refusals.specs.Outcomes.{Outcome, passed, refused, need, _▹_}
+use Rattle.refusals.specs.Outcomes.{Outcome, need, _▹_}
 use Rattle.line.specs.declared.Curve.{Curve}
 use Rattle.line.specs.declared.Line.{Line}
 use Rattle.line.specs.Checks.{headOutcome, bodyOutcome, blankCurve}
-use Rattle.line.specs.Entries.{entries, blankLine}
+use Rattle.line.specs.Entries.{entries, lineAfter}
 use Rattle.packed_sheet.specs.declared.Head.{Head}
 use Rattle.bits.specs.Bits.{bitsAt, valuesAt}
 use Rattle.packed_sheet.specs.Layout.{Edition, headWidths, distanceWidth, curveWidths, entryAt, bitCount, byteCount, fillWidth}
@@ -73,11 +73,6 @@ frameOutcome E sheet =
 -- "then 8 to 11 in sheet order"
 unfoldable pub readOutcome : Edition → List ℕ → Outcome
 readOutcome E sheet = frameOutcome E sheet ▹ bodyOutcome (lineOf E sheet) (countOf E sheet)
-
--- The line beside the outcome: after a refusal all its fields are zero (docs/DECISIONS.md).
-abbrev pub lineAfter : Outcome → Line → Line
-lineAfter passed line = line
-lineAfter (refused number place) line = blankLine
 
 -- The line that the reader answers.
 unfoldable pub readLine : Edition → List ℕ → Line

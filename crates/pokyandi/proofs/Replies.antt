@@ -13,6 +13,7 @@ use Rattle.refusals.proofs.Joining.{passed-right}
 use Rattle.refusals.proofs.FillWays.{refused-reply}
 use Rattle.line.specs.declared.Line.{Line}
 use Rattle.line.specs.Checks.{lineOutcome}
+use Rattle.line.specs.Entries.{lineAfter}
 use Rattle.line.proofs.InRange.{line-in-range}
 use Rattle.line_numbers.specs.Numbers.{lineNumbers, fewOutcome, lineOf, countOutcome, numbersOutcome}
 use Rattle.packed_sheet.specs.Layout.{firstEdition}
@@ -87,13 +88,15 @@ unfolding numbersOutcome
 refused-count numbers buffer e =
     refused-reply (numbersOutcome numbers) (numbersSheet numbers) buffer (ap (λ (o : Outcome). o ▹ lineOutcome (lineOf numbers)) e)
 
-pub write-reply : (numbers bytes : List ℕ) {line : Line} {reply : FillReply} {after : List ℕ} → countOutcome numbers ≡ passed → line ≡ lineOf numbers
+pub write-reply : (numbers bytes : List ℕ) {line : Line} {reply : FillReply} {after : List ℕ} → countOutcome numbers ≡ passed
+    → line ≡ lineAfter (countOutcome numbers) (lineOf numbers)
     → (reply ≡ writeAnswer firstEdition line (length bytes)) × (after ≡ writeBytes firstEdition line bytes)
     → (reply ≡ replyFor (numbersOutcome numbers) (numbersSheet numbers) (length bytes))
     × (after ≡ bufferFor (numbersOutcome numbers) (numbersSheet numbers) bytes)
 unfolding writeAnswer writeBytes writeOutcome replyFor bufferFor withRoom numbersOutcome numbersSheet
-write-reply numbers bytes counted same told =
-    let E = firstEdition in (
+write-reply numbers bytes counted line told =
+    let E = firstEdition in
+    let same = line ∙ ap (λ (o : Outcome). lineAfter o (lineOf numbers)) counted in (
       told .0 ∙ ap (λ (l : Line). writeAnswer E l (length bytes)) same ∙ rw (counted, sheet-length E (lineOf numbers)) refl,
       told .1 ∙ ap (λ (l : Line). writeBytes E l bytes) same ∙ rw (counted, sheet-length E (lineOf numbers)) refl,
     )

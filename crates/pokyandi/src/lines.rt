@@ -6,9 +6,6 @@ ghost use Rattle.line_numbers.specs.Numbers.{numbersOutcome};
 ghost use Rattle.packed_sheet.specs.Layout.{firstEdition};
 ghost use Rattle.packed_sheet.specs.Reading.{readOutcome};
 ghost use Rattle.pokyandi.specs.Calls.{sheetNumbers, numbersSheet};
-use line_numbers::check_count;
-use line_numbers::line_of;
-use line_numbers::put_line;
 use refusals::FillAnswer;
 use refusals::Verdict;
 
@@ -20,7 +17,7 @@ pub(crate) fn sheet_numbers(sheet: &[u8], numbers: &mut [u32]) -> FillAnswer
     let read = sheet::read(sheet);
     let verdict = read.verdict;
     match verdict {
-        Verdict::Pass => put_line(read.line, &mut *numbers),
+        Verdict::Pass => line_numbers::write(read.line, &mut *numbers),
         Verdict::Refused(refusal) => FillAnswer::Refused(refusal),
     }
 }
@@ -30,9 +27,10 @@ pub(crate) fn write_numbers(numbers: &[u32], bytes: &mut [u8]) -> FillAnswer
     ensures { λ a. ⌜ fillReplyOf a ≡ replyFor (numbersOutcome (now (numbers .entry))) (numbersSheet (now (numbers .entry))) (length (now (bytes .entry))) ⌝ }
     ensures { λ _. ⌜ now (bytes .exit) ≡ bufferFor (numbersOutcome (now (numbers .entry))) (numbersSheet (now (numbers .entry))) (now (bytes .entry)) ⌝ }
 {
-    let verdict = check_count(numbers);
+    let read = line_numbers::read(numbers);
+    let verdict = read.verdict;
     match verdict {
-        Verdict::Pass => sheet::write(line_of(numbers), &mut *bytes),
+        Verdict::Pass => sheet::write(read.line, &mut *bytes),
         Verdict::Refused(miscount) => FillAnswer::Refused(miscount),
     }
 }

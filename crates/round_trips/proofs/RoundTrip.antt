@@ -13,11 +13,11 @@ use Rattle.refusals.proofs.Filled.{filled-passed}
 use Rattle.refusals.proofs.FillWays.{filled-whole}
 use Rattle.line.specs.declared.Line.{Line}
 use Rattle.line.specs.Checks.{lineOutcome}
-use Rattle.line.specs.Entries.{cleared}
+use Rattle.line.specs.Entries.{lineAfter, cleared}
 use Rattle.line.proofs.InRange.{line-in-range}
 use Rattle.bits.specs.Bits.{Bytes}
 use Rattle.packed_sheet.specs.Layout.{Edition, firstEdition, Holds, byteCount}
-use Rattle.packed_sheet.specs.Reading.{lineOf, readOutcome, lineAfter, readLine}
+use Rattle.packed_sheet.specs.Reading.{lineOf, readOutcome, readLine}
 use Rattle.packed_sheet.specs.Writing.{sheetOf, writeOutcome, writeAnswer, writeBytes}
 use Rattle.packed_sheet.proofs.Fitting.{first-holds}
 use Rattle.packed_sheet.proofs.Frames.{framed}

@@ -3,7 +3,6 @@ ghost use mathlib.Core.Path.{_≡_};
 ghost use Prim.Native.Nat.{_+_, _/_, _<_, _≤_};
 ghost use lib.ListN.{length};
 ghost use Rattle.refusals.specs.Outcomes.{passed, outcomeOf};
-ghost use Rattle.line.specs.Entries.{blankLine};
 ghost use Rattle.bits.specs.Bits.{valuesAt};
 ghost use Rattle.packed_sheet.specs.Layout.{firstEdition, curveWidths};
 ghost use Rattle.packed_sheet.specs.Reading.{headOf, curveFrom, sizeOutcome, frameOutcome, lineOf, readOutcome, readLine};
@@ -25,6 +24,7 @@ use crate::layout::byte_count;
 use crate::layout::entry_at;
 use line::Curve;
 use line::Line;
+use line::blank_line;
 use line::check_head;
 use line::check_line;
 use packed_sheet::Head;
@@ -82,25 +82,6 @@ fn check_frame(sheet: &[u8], head: Head) -> Verdict
     let fields = check_head(head.count, head.speed, head.crossfall, head.start);
     let size = check_size(sheet, head.count);
     first(edition, first(fields, size))
-}
-
-// A line without curves, all its fields zero.
-fn blank_line() -> Line
-    ensures { λ r. ⌜ r ≡ blankLine ⌝ }
-{
-    Line {
-        speed: 0,
-        crossfall: 0,
-        start: 0,
-        count: 0,
-        distances: [0; 65],
-        curves: [Curve {
-            left: false,
-            deflection: 0,
-            radius: 0,
-            spiral: 0,
-        }; 64],
-    }
 }
 
 // The curve whose fields begin at bit `at`. Side and deflection are taken together.

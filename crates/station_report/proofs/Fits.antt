@@ -11,8 +11,9 @@ use Rattle.refusals.proofs.Filled.{never}
 use Rattle.refusals.proofs.Numbers.{Refuses, joined-numbers, wider}
 use Rattle.refusals.proofs.Joining.{passed-right}
 use Rattle.line.specs.declared.Line.{Line}
+use Rattle.line.specs.Entries.{lineAfter}
 use Rattle.packed_sheet.specs.Layout.{firstEdition}
-use Rattle.packed_sheet.specs.Reading.{lineOf, readOutcome, lineAfter, readLine}
+use Rattle.packed_sheet.specs.Reading.{lineOf, readOutcome, readLine}
 use Rattle.packed_sheet.proofs.Frames.{count-below}
 use Rattle.round_trips.proofs.Numbers.{read-numbers}
 use Rattle.stationing.specs.Stations.{stationRow}

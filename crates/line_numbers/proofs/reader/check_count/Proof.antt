@@ -1,28 +1,33 @@
 -- `check_count`: one case for each way out. Assumes nothing.
-use mathlib.Core.Path.{_∙_, ap}
-use Prim.Native.Nat.{ℕ, _≤_, _<_}
+use mathlib.Core.Path.{_≡_, refl}
+use mathlib.Core.List.{List, [], _∷_}
+use Prim.Native.Nat.{ℕ, _<_}
 use native.Mathlib.Omega.{arith}
-use lib.Dec.{eqb}
 use lib.ListN.{length}
 use borrow.Author.Tests.{le-leb, lt-leb}
-use Rattle.refusals.specs.Outcomes.{need}
-use Rattle.line_numbers.specs.Numbers.{numberCount, numberAt, countOutcome}
+use Rattle.refusals.specs.Outcomes.{refused}
+use Rattle.line_numbers.specs.Numbers.{numberAt, countOutcome}
 use borrow.Author.Needs.{needs}
 use Rattle.line_numbers.proofs.reader.check_count.Statement.{statement}
 use Rattle.line_numbers.proofs.reader.check_count.Tie as tie
 
-number-at-requires : tie.Need-number-at-requires
-number-at-requires c κs = search needs
-
-cast-n : tie.Need-cast-n
-cast-n c = search needs
+none-refused : (numbers : List ℕ) → length numbers < 1 → refused 3 0 ≡ countOutcome numbers
+unfolding countOutcome
+none-refused [] h = refl
+none-refused (x ∷ xs) h = absurd (omega arith)
 
 returns : tie.Need-returns
+returns c = none-refused (c .before .before .args .numbers .now) (c .if1 .taken)
+
+shared-slice-read-n : tie.Need-shared-slice-read-n
+shared-slice-read-n c = search needs
+
+cast-n : tie.Need-cast-n
+cast-n c = omega (arith, c .shared-slice-known2 .given 0)
+
+returns-2 : tie.Need-returns-2
 unfolding countOutcome
-returns c =
-    let numbers = c .before .before .before .args .numbers .now in
-    let many : 64 < numberAt numbers 0 = omega (arith, c .before .number-at .ensures, c .if1 .taken) in
-    rw (lt-leb (numberAt numbers 0) 64 many)
+returns-2 c = rw (lt-leb (numberAt (c .before .before .before .before .args .numbers .now) 0) 64 (c .if2 .taken))
 
 mul-must : tie.Need-mul-must
 mul-must c = search needs
@@ -33,16 +38,19 @@ add-must c = search needs
 must-requires : tie.Need-must-requires
 must-requires c κs = search needs
 
-returns-2 : tie.Need-returns-2
+returns-3 : tie.Need-returns-3
 unfolding countOutcome
-returns-2 c =
-    let numbers = c .before .before .before .before .args .numbers .now in
-    let n = c .before .before .number-at .ensures in
-    let few : numberAt numbers 0 ≤ 64 = omega (arith, n, c .before .if1 .left) in
-    rw (le-leb (numberAt numbers 0) 64 few)
-    (c .must .ensures ∙ ap (λ (n : ℕ). need (eqb (length numbers) (numberCount n)) 3 0) n)
+returns-3 c = rw (le-leb (numberAt (c .before .before .before .before .before .args .numbers .now) 0) 64 (c .before .if2 .left)) (c .must .ensures)
 
 pub check-count-spec : {M : Type 1} → statement M
 check-count-spec =
     tie.close
-    (tie.spec number-at-requires cast-n returns mul-must add-must must-requires returns-2)
+    (tie.spec
+    returns
+    shared-slice-read-n
+    cast-n
+    returns-2
+    mul-must
+    add-must
+    must-requires
+    returns-3)

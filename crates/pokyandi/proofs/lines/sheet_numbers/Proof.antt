@@ -7,7 +7,7 @@ use borrow.Author.Needs.{needs}
 use Rattle.pokyandi.proofs.lines.sheet_numbers.Statement.{statement}
 use Rattle.pokyandi.proofs.lines.sheet_numbers.Tie as tie
 use Rattle.sheet.proofs.read.Reads as read-reads
-use Rattle.line_numbers.proofs.put_line.Reads as put-line-reads
+use Rattle.line_numbers.proofs.write.Reads as write-reads
 
 read-requires : tie.Need-read-requires
 read-requires c κs = search needs
@@ -15,8 +15,8 @@ read-requires c κs = search needs
 enum-told : tie.Need-enum-told
 enum-told c = search needs
 
-put-line-requires : tie.Need-put-line-requires
-put-line-requires c κs = search needs
+write-requires : tie.Need-write-requires
+write-requires c κs = search needs
 
 enum-known-verdict : tie.Need-enum-known-verdict
 enum-known-verdict c = search needs
@@ -28,7 +28,7 @@ returns : tie.Need-returns
 returns c =
     let read = c .before .before .before .before .before .before .read .ensures in
     let passes = sym (read .0) ∙ ap outcomeOf (c .before .before .before .before .enum-told .given .1) in
-    numbers-reply _ passes (read .1) _ (c .before .before .put-line .ensures)
+    numbers-reply _ passes (read .1) _ (c .before .before .write .ensures)
 
 returns-2 : tie.Need-returns-2
 returns-2 c =
@@ -41,7 +41,7 @@ sheet-numbers-spec =
     (tie.spec
     read-requires
     enum-told
-    put-line-requires
+    write-requires
     enum-known-verdict
     same-length
     returns

@@ -6,14 +6,11 @@ use borrow.Author.Needs.{needs}
 use Rattle.pokyandi.proofs.lines.write_numbers.Statement.{statement}
 use Rattle.pokyandi.proofs.lines.write_numbers.Tie as tie
 
-check-count-requires : tie.Need-check-count-requires
-check-count-requires c κs = search needs
+read-requires : tie.Need-read-requires
+read-requires c κs = search needs
 
 enum-told : tie.Need-enum-told
 enum-told c = search needs
-
-line-of-requires : tie.Need-line-of-requires
-line-of-requires c κs = search needs
 
 write-requires : tie.Need-write-requires
 write-requires c κs = search needs
@@ -26,22 +23,21 @@ same-length c = search needs
 
 returns : tie.Need-returns
 returns c =
-    let count = c .before .before .before .before .before .before .before .check-count in
-    let counted = sym (count .ensures) ∙ ap outcomeOf (c .before .before .before .before .before .enum-told .given .1) in
-    write-reply _ _ counted (c .before .before .before .before .line-of .ensures) (c .before .before .write .ensures)
+    let read = c .before .before .before .before .before .before .read .ensures in
+    let counted = sym (read .0) ∙ ap outcomeOf (c .before .before .before .before .enum-told .given .1) in
+    write-reply _ _ counted (read .1) (c .before .before .write .ensures)
 
 returns-2 : tie.Need-returns-2
 returns-2 c =
-    let refusal = sym (c .before .before .before .check-count .ensures) ∙ ap outcomeOf (c .before .verdict .given .1) in
+    let refusal = sym (c .before .before .before .read .ensures .0) ∙ ap outcomeOf (c .before .verdict .given .1) in
     refused-count _ _ refusal
 
 pub write-numbers-spec : {M : Type 1} → statement M
 write-numbers-spec =
     tie.close
     (tie.spec
-    check-count-requires
+    read-requires
     enum-told
-    line-of-requires
     write-requires
     enum-known-verdict
     same-length

@@ -1,4 +1,4 @@
--- `put_line`: one case for each way out. Assumes nothing.
+-- `write`: one case for each way out. Assumes nothing.
 use mathlib.Core.Path.{_≡_, ap}
 use mathlib.Core.Bool.{Bool}
 use native.Mathlib.Omega.{arith}
@@ -8,8 +8,8 @@ use Rattle.refusals.specs.Outcomes.{need}
 use Rattle.refusals.proofs.FillWays.{refused-reply, small-reply, filled-reply}
 use Rattle.line_numbers.specs.Numbers.{fewOutcome, lineNumbers}
 use Rattle.line_numbers.proofs.Storing.{line-length}
-use Rattle.line_numbers.proofs.writer.put_line.Statement.{statement}
-use Rattle.line_numbers.proofs.writer.put_line.Tie as tie
+use Rattle.line_numbers.proofs.writer.write.Statement.{statement}
+use Rattle.line_numbers.proofs.writer.write.Tie as tie
 
 returns : tie.Need-returns
 returns c =
@@ -40,7 +40,7 @@ returns-3 c =
     let few = ap (λ (b : Bool). need b 3 0) (le-leb (line .count) 64 (omega arith)) in
     filled-reply (fewOutcome line) (lineNumbers line) _ few (line-length line) (omega arith) (c .before .before .store-line .ensures)
 
-pub put-line-spec : {M : Type 1} → statement M
-put-line-spec =
+pub write-spec : {M : Type 1} → statement M
+write-spec =
     tie.close
     (tie.spec returns mul-count add-count returns-2 store-line-requires same-length returns-3)
