@@ -25,7 +25,7 @@ const SEED: u64 = 1;
 /// All of them. A name begins with that of the call.
 pub fn named_requests() -> Vec<NamedRequest> {
     let mut dice = Dice::new(SEED);
-    [
+    let requests = [
         stored_sheets(),
         edges_of_the_reader(&mut dice),
         edges_of_the_calculator(&mut dice),
@@ -33,7 +33,35 @@ pub fn named_requests() -> Vec<NamedRequest> {
         edges_of_the_writer(&mut dice),
         odd_lines(&mut dice),
     ]
-    .concat()
+    .concat();
+    let without_room = without_room(&requests);
+    [requests, without_room].concat()
+}
+
+/// Those that claim a refusal before 16 again, without any room: 16 comes last.
+fn without_room(requests: &[NamedRequest]) -> Vec<NamedRequest> {
+    let refused_before_16 = |named: &&NamedRequest| {
+        let refusals = named.sample.0.call().refusals();
+        match named.claim {
+            Claim::Refused(refusal) => {
+                refusal.number < 16 && refusals.contains(&refusal.number) && refusals.contains(&16)
+            }
+            _ => false,
+        }
+    };
+    let refused = requests.iter().filter(refused_before_16).cloned();
+    refused
+        .map(
+            |Named {
+                 name,
+                 claim,
+                 sample,
+             }| {
+                let name = format!("{name}, no room");
+                named(name, claim, (sample.0, Room::Entries(0)))
+            },
+        )
+        .collect()
 }
 
 /// The request that is made of a sample.
@@ -266,6 +294,9 @@ mod tests {
             counts,
             [31 * 5, of_the_reader, of_the_calculator, 8 + 469, 165, 93]
         );
+        let without_room = 1_909;
+        let all = counts.iter().sum::<usize>() + without_room;
+        assert_eq!(named_requests().len(), all);
     }
 
     #[test]
