@@ -3,6 +3,6 @@
 mod reader;
 mod writer;
 
-pub use reader::LineAnswer;
+pub use reader::check_count;
 pub use reader::read;
 pub use writer::write;

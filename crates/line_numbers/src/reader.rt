@@ -12,14 +12,8 @@ use refusals::Refusal;
 use refusals::Verdict;
 use refusals::must;
 
-// What is answered for numbers: that they are those of n curves, and the line; or refusal 3, and a line whose fields are all zero.
-pub struct LineAnswer {
-    pub verdict: Verdict,
-    pub line: Line,
-}
-
-// Refusal 3: over 64 curves, or other than the 5 + 5 × n numbers of n curves.
-fn check_count(numbers: &[u32]) -> Verdict
+// Refusal 3: over 64 curves, or other than the 5 + 5 × n numbers of n curves, so that a line cut short is never taken for a whole one.
+pub fn check_count(numbers: &[u32]) -> Verdict
     ensures { λ r. ⌜ outcomeOf r ≡ countOutcome (now (numbers .entry)) ⌝ }
 {
     if numbers.len() < 1 {
@@ -55,7 +49,7 @@ fn curve_of(numbers: &[u32], entry: usize) -> Curve
 }
 
 // The line of numbers that are those of n curves.
-fn line_of(numbers: &[u32]) -> Line
+fn whole_line(numbers: &[u32]) -> Line
     requires { ⌜ (numberAt (now numbers) 0 ≤ 64) × (length (now numbers) ≡ numberCount (numberAt (now numbers) 0)) ⌝ }
     ensures { λ r. ⌜ r ≡ lineOf (now (numbers .entry)) ⌝ }
 {
@@ -75,19 +69,14 @@ fn line_of(numbers: &[u32]) -> Line
     line
 }
 
-// The line of numbers, its unused entries zero, or refusal 3, so that a line cut short is never taken for a whole one; a curve whose side is
-// neither 0 nor 1 has no deflection, which 9 refuses. Any numbers are taken; their ranges are checked by whoever takes the line.
-pub fn read(numbers: &[u32]) -> LineAnswer
-    ensures answer { λ r. ⌜ outcomeOf (r .verdict) ≡ countOutcome (now (numbers .entry)) ⌝ }
-    ensures line { λ r. ⌜ r .line ≡ lineAfter (countOutcome (now (numbers .entry))) (lineOf (now (numbers .entry))) ⌝ }
+// The line of numbers, its unused entries zero; after refusal 3 a line whose fields are all zero. A curve whose side is neither 0 nor 1 has
+// no deflection, which 9 refuses. Any numbers are taken; their ranges are checked by whoever takes the line.
+pub fn read(numbers: &[u32]) -> Line
+    ensures { λ r. ⌜ r ≡ lineAfter (countOutcome (now (numbers .entry))) (lineOf (now (numbers .entry))) ⌝ }
 {
     let verdict = check_count(numbers);
     let Verdict::Pass = verdict else {
-        return LineAnswer {
-            verdict,
-            line: blank_line(),
-        };
+        return blank_line();
     };
-    let line = line_of(numbers);
-    LineAnswer { verdict, line }
+    whole_line(numbers)
 }

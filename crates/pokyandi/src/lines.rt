@@ -27,10 +27,9 @@ pub(crate) fn write_numbers(numbers: &[u32], bytes: &mut [u8]) -> FillAnswer
     ensures { λ a. ⌜ fillReplyOf a ≡ replyFor (numbersOutcome (now (numbers .entry))) (numbersSheet (now (numbers .entry))) (length (now (bytes .entry))) ⌝ }
     ensures { λ _. ⌜ now (bytes .exit) ≡ bufferFor (numbersOutcome (now (numbers .entry))) (numbersSheet (now (numbers .entry))) (now (bytes .entry)) ⌝ }
 {
-    let read = line_numbers::read(numbers);
-    let verdict = read.verdict;
+    let verdict = line_numbers::check_count(numbers);
     match verdict {
-        Verdict::Pass => sheet::write(read.line, &mut *bytes),
+        Verdict::Pass => sheet::write(line_numbers::read(numbers), &mut *bytes),
         Verdict::Refused(miscount) => FillAnswer::Refused(miscount),
     }
 }

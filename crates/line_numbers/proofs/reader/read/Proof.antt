@@ -21,18 +21,16 @@ blank-line-requires c κs = search needs
 
 returns : tie.Need-returns
 returns c =
-    let answer = c .before .before .before .check-count .ensures in
-    (answer, beside-verdict _ _ answer (c .before .enum-told2 .given .1) (c .blank-line .ensures))
+    beside-verdict _ _ (c .before .before .before .check-count .ensures) (c .before .enum-told2 .given .1) (c .blank-line .ensures)
 
-line-of-requires : tie.Need-line-of-requires
-line-of-requires c κs =
+whole-line-requires : tie.Need-whole-line-requires
+whole-line-requires c κs =
     let passes = sym (c .before .before .check-count .ensures) ∙ ap outcomeOf (c .enum-told .given .1) in
     (few-counted _ passes, all-counted _ passes)
 
 returns-2 : tie.Need-returns-2
 returns-2 c =
-    let answer = c .before .before .before .check-count .ensures in
-    (answer, beside-verdict _ _ answer (c .before .enum-told .given .1) (c .line-of .ensures))
+    beside-verdict _ _ (c .before .before .before .check-count .ensures) (c .before .enum-told .given .1) (c .whole-line .ensures)
 
 pub read-spec : {M : Type 1} → statement M
 read-spec =
@@ -43,5 +41,5 @@ read-spec =
     enum-told-2
     blank-line-requires
     returns
-    line-of-requires
+    whole-line-requires
     returns-2)

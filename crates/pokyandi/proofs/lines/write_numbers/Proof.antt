@@ -6,11 +6,14 @@ use borrow.Author.Needs.{needs}
 use Rattle.pokyandi.proofs.lines.write_numbers.Statement.{statement}
 use Rattle.pokyandi.proofs.lines.write_numbers.Tie as tie
 
-read-requires : tie.Need-read-requires
-read-requires c κs = search needs
+check-count-requires : tie.Need-check-count-requires
+check-count-requires c κs = search needs
 
 enum-told : tie.Need-enum-told
 enum-told c = search needs
+
+read-requires : tie.Need-read-requires
+read-requires c κs = search needs
 
 write-requires : tie.Need-write-requires
 write-requires c κs = search needs
@@ -23,21 +26,22 @@ same-length c = search needs
 
 returns : tie.Need-returns
 returns c =
-    let read = c .before .before .before .before .before .before .read .ensures in
-    let counted = sym (read .0) ∙ ap outcomeOf (c .before .before .before .before .enum-told .given .1) in
-    write-reply _ _ counted (read .1) (c .before .before .write .ensures)
+    let count = c .before .before .before .before .before .before .before .check-count in
+    let counted = sym (count .ensures) ∙ ap outcomeOf (c .before .before .before .before .before .enum-told .given .1) in
+    write-reply _ _ counted (c .before .before .before .before .read .ensures) (c .before .before .write .ensures)
 
 returns-2 : tie.Need-returns-2
 returns-2 c =
-    let refusal = sym (c .before .before .before .read .ensures .0) ∙ ap outcomeOf (c .before .verdict .given .1) in
+    let refusal = sym (c .before .before .before .check-count .ensures) ∙ ap outcomeOf (c .before .verdict .given .1) in
     refused-count _ _ refusal
 
 pub write-numbers-spec : {M : Type 1} → statement M
 write-numbers-spec =
     tie.close
     (tie.spec
-    read-requires
+    check-count-requires
     enum-told
+    read-requires
     write-requires
     enum-known-verdict
     same-length

@@ -1,12 +1,12 @@
--- `line_of`: the loop keeps the line filled up to curve i and the distance after it. Assumes nothing.
+-- `whole_line`: the loop keeps the line filled up to curve i and the distance after it. Assumes nothing.
 use mathlib.Core.Path.{_≡_, refl, _∙_, ap}
 use Prim.Native.Nat.{_-_, _≤_}
 use native.Mathlib.Omega.{arith}
 use borrow.Author.Needs.{needs}
 use Rattle.line_numbers.specs.Numbers.{numberAt}
 use Rattle.line_numbers.proofs.Filling.{lineTo, line-begun, line-goes-on, line-done}
-use Rattle.line_numbers.proofs.reader.line_of.Statement.{statement}
-use Rattle.line_numbers.proofs.reader.line_of.Tie as tie
+use Rattle.line_numbers.proofs.reader.whole_line.Statement.{statement}
+use Rattle.line_numbers.proofs.reader.whole_line.Tie as tie
 
 abbrev Inv-loop : tie.InvT-loop
 Inv-loop numbers n line₀ i₀ line i = (i ≤ n) × (line ≡ lineTo numbers i)
@@ -87,8 +87,8 @@ returns c =
     let all : c .before .loop .i ≡ numberAt numbers 0 = search needs in
     c .before .loop .inv .1 ∙ ap (lineTo numbers) all ∙ line-done numbers
 
-pub line-of-spec : {M : Type 1} → statement M
-line-of-spec =
+pub whole-line-spec : {M : Type 1} → statement M
+whole-line-spec =
     tie.close
     (tie.spec
     Inv-loop
