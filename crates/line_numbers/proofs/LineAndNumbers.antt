@@ -4,15 +4,14 @@ use mathlib.Core.Path.{_≡_, refl, sym, _∙_, ap}
 use mathlib.Core.Bool.{Bool, true, _&&_}
 use mathlib.Core.List.{List, [], _∷_, _++_, append-assoc}
 use Prim.Native.Nat.{ℕ, zero, suc, _+_, _*_, _≤_, _<_}
-use native.Mathlib.Nat.{add-zero}
 use native.Mathlib.Decide.{decLe, decLt}
 use native.Mathlib.Omega.{arith}
 use lib.Dec.{leb, eqb}
-use lib.ListN.{length, take, getD, List·getD-append}
+use lib.ListN.{length, take, List·getD-append}
 use lib.Seq.{take-suc, take-length, getD-append-add}
 use borrow.Author.Tests.{leb-true, eqb-true, le-leb, lt-leb, eq-eqb}
 use Rattle.numbers.proofs.Tests.{both-left, both-right}
-use Rattle.refusals.specs.Outcomes.{Outcome, passed, need, _▹_}
+use Rattle.refusals.specs.Outcomes.{passed, need, _▹_}
 use Rattle.refusals.proofs.Joining.{passed-left, passed-right, need-holds}
 use Rattle.line.specs.declared.Curve.{Curve}
 use Rattle.line.specs.declared.Line.{Line}
@@ -24,7 +23,7 @@ use Rattle.line.proofs.Entries.{entries-get, entries-same}
 use Rattle.line.proofs.Sides.{side-of-bit, bit-of-side, side-fits}
 use Rattle.line.proofs.Unused.{unused-ignored, cleared-alike}
 use Rattle.line_numbers.specs.Numbers.{numberCount, headNumbers, entryNumbers, numbersTo, lineNumbers, numberAt, distanceOf, turnOf, curveOf, lineOf, countOutcome, numbersOutcome}
-use Rattle.line_numbers.proofs.Storing.{numbers-length, line-length}
+use Rattle.line_numbers.proofs.Storing.{numbers-length}
 
 -- A side of two values keeps its deflection, and another has none.
 turn-kept : (side A : ℕ) → side ≤ 1 → turnOf side A ≡ A

@@ -4,7 +4,7 @@ use mathlib.Core.List.{List, _++_}
 use Prim.Native.Nat.{ℕ, _≤_}
 use lib.ListN.{length, take, drop}
 use Rattle.refusals.specs.Outcomes.{Outcome, passed}
-use Rattle.refusals.specs.Filling.{FillReply, filled, replyFor, bufferFor}
+use Rattle.refusals.specs.Filling.{filled, replyFor, bufferFor}
 use Rattle.refusals.proofs.Joining.{passed-right}
 use Rattle.refusals.proofs.FillWays.{filled-reply}
 use Rattle.refusals.proofs.Filled.{found-content}

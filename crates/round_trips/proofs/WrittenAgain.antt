@@ -1,9 +1,8 @@
 -- A sheet read and written again: the fields read are the fields packed. Assumes nothing.
-use mathlib.Core.Path.{_≡_, refl, sym, _∙_, ap}
+use mathlib.Core.Path.{_≡_, sym, _∙_, ap}
 use mathlib.Core.List.{List, [], _∷_}
-use Prim.Native.Nat.{ℕ, zero, suc, _+_, _^_, _≤_, _<_}
+use Prim.Native.Nat.{ℕ, zero, suc, _+_, _≤_, _<_}
 use native.Mathlib.Omega.{arith}
-use lib.Dec.{eqb}
 use Rattle.line.specs.Checks.{distanceAt, blankCurve, curveAt}
 use Rattle.line.proofs.Entries.{entries-get}
 use Rattle.line.proofs.Sides.{bit-of-side}
