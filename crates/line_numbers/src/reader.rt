@@ -48,13 +48,17 @@ fn curve_of(numbers: &[u32], entry: usize) -> Curve
     }
 }
 
-// The line of numbers that are those of n curves.
-fn whole_line(numbers: &[u32]) -> Line
-    requires { ⌜ (numberAt (now numbers) 0 ≤ 64) × (length (now numbers) ≡ numberCount (numberAt (now numbers) 0)) ⌝ }
-    ensures { λ r. ⌜ r ≡ lineOf (now (numbers .entry)) ⌝ }
+// The line of numbers, its unused entries zero; after refusal 3 a line whose fields are all zero. A curve whose side is neither 0 nor 1 has
+// no deflection, which 9 refuses. Any numbers are taken; their ranges are checked by whoever takes the line.
+pub fn read(numbers: &[u32]) -> Line
+    ensures { λ r. ⌜ r ≡ lineAfter (countOutcome (now (numbers .entry))) (lineOf (now (numbers .entry))) ⌝ }
 {
-    let n = numbers[0] as usize;
     let mut line = blank_line();
+    let verdict = check_count(numbers);
+    let Verdict::Pass = verdict else {
+        return line;
+    };
+    let n = numbers[0] as usize;
     line.count = n;
     line.speed = numbers[1];
     line.crossfall = numbers[2];
@@ -67,16 +71,4 @@ fn whole_line(numbers: &[u32]) -> Line
         line.distances[i] = numbers[4 + 5 * i];
     }
     line
-}
-
-// The line of numbers, its unused entries zero; after refusal 3 a line whose fields are all zero. A curve whose side is neither 0 nor 1 has
-// no deflection, which 9 refuses. Any numbers are taken; their ranges are checked by whoever takes the line.
-pub fn read(numbers: &[u32]) -> Line
-    ensures { λ r. ⌜ r ≡ lineAfter (countOutcome (now (numbers .entry))) (lineOf (now (numbers .entry))) ⌝ }
-{
-    let verdict = check_count(numbers);
-    let Verdict::Pass = verdict else {
-        return blank_line();
-    };
-    whole_line(numbers)
 }
