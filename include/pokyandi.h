@@ -103,7 +103,7 @@ static inline size_t pokyandi_distance(size_t i) { return 5 * i + 4; }
 uint64_t pokyandi_read(const uint8_t *sheet, size_t sheet_bytes, uint32_t *line, size_t line_numbers);
 
 /* The sheet of a line. Count: its bytes. Refusals: 3 to 6, 8 to 11, then 16. The line has 5 + 5 x n numbers, neither fewer nor more, else
- * it is refused 3; a side other than 0 and 1 is refused 9 at its curve. */
+ * it is refused 3; a side other than 0 and 1 is refused as a deflection out of range is, 9 at its curve in its turn. */
 uint64_t pokyandi_write(const uint32_t *line, size_t line_numbers, uint8_t *bytes, size_t bytes_room);
 
 /* The sheet read and written again, which are the same bytes. Count: its bytes. Refusals: 1 to 11, then 16. */

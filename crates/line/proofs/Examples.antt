@@ -8,7 +8,7 @@ use lib.ListN.{replicate}
 use Rattle.refusals.specs.Outcomes.{passed, refused}
 use Rattle.line.specs.declared.Curve.{Curve}
 use Rattle.line.specs.declared.Line.{Line}
-use Rattle.line.specs.Entries.{blankLine, lineAfter}
+use Rattle.line.specs.Entries.{lineAfter}
 use Rattle.line.specs.Checks.{startOutcome, headOutcome, distanceOutcome, curveOutcome, bodyOutcome, lineOutcome}
 
 -- A curve with radius R and spiral length L.
@@ -34,7 +34,8 @@ pub record Examples : Type 0 where
   pub deflection-before-radius : lineOutcome (lineOf 64 0 (replicate 65 500000) (replicate 64 bad)) ≡ refused 9 1
   pub start-before-distance : lineOutcome (lineOf 64 200000001 (replicate 65 0) (replicate 64 bad)) ≡ refused 6 0
   pub count-before-start : lineOutcome (lineOf 65 200000001 (replicate 65 0) (replicate 64 bad)) ≡ refused 3 0
-  pub after-a-refusal : lineAfter (refused 8 0) (lineOf 1 0 (1 ∷ replicate 64 0) (replicate 64 good)) ≡ blankLine
+  pub after-a-refusal : lineAfter (refused 8 0) (lineOf 1 0 (1 ∷ replicate 64 0) (replicate 64 good))
+      ≡ record { speed = 0; crossfall = 0; start = 0; count = 0; distances = replicate 65 0; curves = replicate 64 (curve 0 0 0) }
   pub unused-entries : lineOutcome (lineOf 0 0 (1 ∷ replicate 64 0) (replicate 64 bad)) ≡ passed
 
 pub examples : Examples

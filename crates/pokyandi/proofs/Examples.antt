@@ -1,7 +1,9 @@
 -- Answers by computation, and document 01's cases 1 and 9 as the calls for C and Rust give them. Assumes nothing.
-use mathlib.Core.Path.{_≡_, refl, sym}
+use mathlib.Core.Path.{_≡_, refl, sym, ap}
 use mathlib.Core.List.{[], _∷_}
 use Rattle.refusals.specs.Filling.{filled, unfilled, replyFor, bufferFor}
+use Rattle.line.specs.Entries.{entries}
+use Rattle.line_numbers.specs.Numbers.{numbersTo, lineNumbers, lineOf}
 use Rattle.packed_sheet.proofs.Examples.{sheet9}
 use Rattle.packed_sheet.proofs.Examples as sheets
 use Rattle.elements.specs.declared.Elements.{Elements}
@@ -10,7 +12,7 @@ use Rattle.elements.proofs.Examples as curves
 use Rattle.stationing.proofs.Examples as lines
 use Rattle.station_report.specs.Report.{sheetOutcome}
 use Rattle.pokyandi.specs.Answers.{answerNumber}
-use Rattle.pokyandi.specs.Calls.{sheetStations, elementNumbers}
+use Rattle.pokyandi.specs.Calls.{sheetStations, sheetNumbers, numbersSheet, elementNumbers}
 use Rattle.pokyandi.proofs.Replies.{stations-reply, found-numbers}
 
 pub record Examples : Type 0 where
@@ -18,6 +20,8 @@ pub record Examples : Type 0 where
   pub refusal : answerNumber (unfilled 15 64) ≡ 64424509504
   -- ---- document 01's cases
   pub case-1 : elementNumbers 177764 350000 40000 ≡ 39986940 ∷ 761727 ∷ 19997823 ∷ 190454 ∷ 261638467 ∷ 180989278 ∷ []
+  pub case-9-numbers : sheetNumbers sheet9 ≡ 0 ∷ 70 ∷ 8 ∷ 0 ∷ 500000 ∷ []
+  pub case-9-sheet : numbersSheet (0 ∷ 70 ∷ 8 ∷ 0 ∷ 500000 ∷ []) ≡ sheet9
   pub case-9 : replyFor (sheetOutcome sheet9) (sheetStations sheet9) 1 ≡ filled 1
   pub case-9-end : bufferFor (sheetOutcome sheet9) (sheetStations sheet9) (7 ∷ []) ≡ 500000000 ∷ []
 
@@ -34,12 +38,14 @@ stations9 =
     (sym (lines.examples .case-9), sym (lines.examples .case-9-row))
 
 pub examples : Examples
-unfolding answerNumber
+unfolding answerNumber sheetNumbers numbersSheet numbersTo lineNumbers lineOf entries
 examples =
     record {
       count = refl;
       refusal = refl;
       case-1 = sym (found-numbers 177764 350000 40000 elements1 (found-elements 177764 350000 40000 elements1 (sym (curves.examples .case-1))));
+      case-9-numbers = ap lineNumbers (sheets.examples .case-9-line);
+      case-9-sheet = sheets.examples .case-9-written;
       case-9 = sym (stations9 .0);
       case-9-end = sym (stations9 .1);
     }
