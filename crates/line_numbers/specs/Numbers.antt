@@ -31,6 +31,7 @@ unfoldable pub numbersTo : Line → ℕ → List ℕ
 numbersTo line zero = headNumbers line
 numbersTo line (suc i) = numbersTo line i ++ entryNumbers line i
 
+-- "n, V, e, start, distance 0, then side, A, R, L, distance for each curve"
 unfoldable pub lineNumbers : Line → List ℕ
 lineNumbers line = numbersTo line (line .count)
 

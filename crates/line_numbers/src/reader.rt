@@ -4,7 +4,7 @@ ghost use Prim.Native.Nat.{_+_, _*_, _<_, _≤_};
 ghost use lib.ListN.{length};
 ghost use Rattle.refusals.specs.Outcomes.{outcomeOf};
 ghost use Rattle.line.specs.Entries.{lineAfter};
-ghost use Rattle.line_numbers.specs.Numbers.{numberCount, numberAt, turnOf, curveOf, lineOf, countOutcome};
+ghost use Rattle.line_numbers.specs.Numbers.{turnOf, curveOf, lineOf, countOutcome};
 use line::Curve;
 use line::Line;
 use line::blank_line;
