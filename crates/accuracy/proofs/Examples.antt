@@ -10,16 +10,16 @@ use lib.IntN.{ℤ, pos, _*ℤ_}
 use lib.ListN.{replicate}
 use lib.Signed.{leZ, ltZ, leZ-yes, ltZ-yes}
 use Rattle.refusals.specs.Outcomes.{firstOf}
-use Rattle.refusals.specs.Filling.{filled, unfilled}
+use Rattle.refusals.specs.Filling.{filled, unfilled, withRoom, fill}
 use Rattle.line.specs.declared.Curve.{Curve}
 use Rattle.line.specs.declared.Line.{Line}
-use Rattle.line.specs.Checks.{startOutcome, headOutcome, distanceOutcome, curveOutcome, bodyOutcome, lineOutcome}
+use Rattle.line.specs.Checks.{startCheck, headChecks, distanceCheck, curveChecks, bodyChecks, lineChecks}
 use Rattle.elements.specs.WorkingRule.{rounded, fullAngle, halfAngle, spiralAngle, term, alternating, sineOf, cosineOf, t2, t3, t4, unitX, unitY, spiralX, spiralY, centreOf, shiftOf, arcOf, tanOf, tangentOf}
-use Rattle.elements.specs.Answer.{arcOutcome}
+use Rattle.elements.specs.Answer.{arcCheck}
 use Rattle.stationing.specs.RoadTables.{underSpeed, frictionAt, leastSpiralAt, radiusServes, spiralServes}
-use Rattle.stationing.specs.Stations.{spiralAt, arcAt, tangentAt, tangentBefore, tangentAfter, straightAt, formerST, pointsAt, endOf}
-use Rattle.stationing.specs.Answer.{designOutcome, curveCheck, straightCheck, alignmentOutcome, roomCheck, stationsOutcome, stationsAnswer}
-use Rattle.accuracy.specs.Fractions.{Fraction, whole, nat, _⊕_, _⊖_, _⊗_, _^_, _⊘_, over, ratio, _≼_, _≺_, _≈_}
+use Rattle.stationing.specs.Stations.{spiralAt, arcAt, tangentAt, tangentBefore, tangentAfter, straightAt, formerST, pointsAt, endOf, curveStations, stationsOf, stationRow}
+use Rattle.stationing.specs.Answer.{designChecks, designChecksAt, straightCheck, alignmentChecks, stationsIn}
+use Rattle.accuracy.specs.Fractions.{Fraction, whole, nat, _⊕_, _⊖_, _⊗_, _↑_, _⊘_, over, ratio, _≼_, _≺_, _≈_}
 use Rattle.accuracy.specs.ExactElements.{exactPi, exactAngle, exactHalfAngle, exactSpiralAngle, alternatingSum, factorial, exactSine, exactCosine, documentTerms, exactX, exactY, exactCentre, exactShift, exactArc, exactTan, exactTangent}
 use Rattle.accuracy.specs.ExactStations.{exactSpiralAt, exactArcAt, exactTangentAt, exactTangentBefore, exactTangentAfter, exactStraightAt, exactFormerST, exactPointsAt, exactEnd}
 use Rattle.accuracy.specs.Accuracy.{Within, ElementsWithin, tolerance, tenths, leastStraight, leastArc, refusedStraight, refusedArc}
@@ -100,24 +100,24 @@ pub record Examples : Type 0 where
   pub case-1-D : Billionths 261638467230644 (exactArc 177764 350000 40000)
   pub case-1-TT : Billionths 180989278931612 (exactTangent documentTerms 177764 350000 40000)
   pub greatest : ElementsWithin documentTerms 432000 500000 500000
-  pub far-accepted : stationsAnswer farLine 5 ≡ filled 5
+  pub far-accepted : stationsIn farLine (replicate 5 0) .reply ≡ filled 5
   pub far-TS : Within (tolerance 1) (pointsAt farLine 0 .TS) (exactPointsAt documentTerms farLine 0 .TS)
   pub far-end : Within (tolerance 1) (endOf farLine) (exactEnd documentTerms farLine)
-  pub two-accepted : stationsAnswer twoCurves 9 ≡ filled 9
+  pub two-accepted : stationsIn twoCurves (replicate 9 0) .reply ≡ filled 9
   pub second-TS : Within (tolerance 2) (pointsAt twoCurves 1 .TS) (exactPointsAt documentTerms twoCurves 1 .TS)
   pub two-end : Within (tolerance 2) (endOf twoCurves) (exactEnd documentTerms twoCurves)
   -- case 2, an accepted straight of 1,722 µm; case 3, a refused one; case 7's curve in a line, a refused arc; case 6's, an accepted one
-  pub case-2 : stationsAnswer (caseLine 180991) 5 ≡ filled 5
+  pub case-2 : stationsIn (caseLine 180991) (replicate 5 0) .reply ≡ filled 5
   pub case-2-straight : tenths leastStraight ≺ exactStraightAt documentTerms (caseLine 180991) 0
-  pub case-3 : stationsAnswer (caseLine 180990) 5 ≡ unfilled 15 0
+  pub case-3 : stationsIn (caseLine 180990) (replicate 5 0) .reply ≡ unfilled 15 0
   pub case-3-straight : exactStraightAt documentTerms (caseLine 180990) 0 ≺ tenths refusedStraight
-  pub case-6 : stationsAnswer (shortArc 23574) 5 ≡ filled 5
+  pub case-6 : stationsIn (shortArc 23574) (replicate 5 0) .reply ≡ filled 5
   pub case-6-arc : tenths leastArc ≺ exactArcAt (shortArc 23574) 0
-  pub case-7 : stationsAnswer (shortArc 23573) 5 ≡ unfilled 14 1
+  pub case-7 : stationsIn (shortArc 23573) (replicate 5 0) .reply ≡ unfilled 14 1
   pub case-7-arc : exactArcAt (shortArc 23573) 0 ≺ tenths refusedArc
 
 pub examples : Examples
-unfolding firstOf startOutcome headOutcome distanceOutcome curveOutcome bodyOutcome lineOutcome arcOutcome underSpeed frictionAt leastSpiralAt radiusServes spiralServes designOutcome curveCheck straightCheck alignmentOutcome roomCheck stationsOutcome stationsAnswer rounded fullAngle halfAngle spiralAngle term alternating sineOf cosineOf t2 t3 t4 unitX unitY spiralX spiralY centreOf shiftOf arcOf tanOf tangentOf spiralAt arcAt tangentAt tangentBefore tangentAfter straightAt formerST pointsAt endOf whole _⊕_ _⊖_ _⊗_ _^_ _⊘_ over ratio exactPi exactAngle exactHalfAngle exactSpiralAngle alternatingSum factorial exactSine exactCosine exactX exactY exactCentre exactShift exactArc exactTan exactTangent exactSpiralAt exactArcAt exactTangentAt exactTangentBefore exactTangentAfter exactStraightAt exactFormerST exactPointsAt exactEnd
+unfolding firstOf startCheck headChecks distanceCheck curveChecks bodyChecks lineChecks arcCheck underSpeed frictionAt leastSpiralAt radiusServes spiralServes designChecks designChecksAt straightCheck alignmentChecks withRoom fill stationsIn rounded fullAngle halfAngle spiralAngle term alternating sineOf cosineOf t2 t3 t4 unitX unitY spiralX spiralY centreOf shiftOf arcOf tanOf tangentOf spiralAt arcAt tangentAt tangentBefore tangentAfter straightAt formerST pointsAt endOf curveStations stationsOf stationRow whole _⊕_ _⊖_ _⊗_ _↑_ _⊘_ over ratio exactPi exactAngle exactHalfAngle exactSpiralAngle alternatingSum factorial exactSine exactCosine exactX exactY exactCentre exactShift exactArc exactTan exactTangent exactSpiralAt exactArcAt exactTangentAt exactTangentBefore exactTangentAfter exactStraightAt exactFormerST exactPointsAt exactEnd
 examples =
     record {
       sine-of-1 = equal tt tt;

@@ -5,7 +5,7 @@ use lib.Dec.{lit<, lit≤}
 use lib.IntN.{ℤ, pos, _*ℤ_}
 use Rattle.line.specs.Ranges.{CurveInRange}
 use Rattle.elements.specs.WorkingRule.{scale, rounded, spiralAngle, t2, t3, t4, unitX, unitY, spiralX, spiralY, centreOf, shiftOf, arcOf}
-use Rattle.accuracy.specs.Fractions.{Fraction, nat, _⊕_, _⊖_, _⊗_, _^_, _⊘_}
+use Rattle.accuracy.specs.Fractions.{Fraction, nat, _⊕_, _⊖_, _⊗_, _↑_, _⊘_}
 use Rattle.accuracy.specs.ExactElements.{exactSpiralAngle, exactX, exactY, exactCentre, exactShift, exactArc}
 use Rattle.accuracy.proofs.Nearness.{Near, near-nat, near-sum, near-difference, near-multiple, near-part, near-down}
 use Rattle.accuracy.proofs.Powers.{power-one}
@@ -34,15 +34,15 @@ module _ (A R L : ℕ) (ok : CurveInRange A R L) where
   s : Fraction
   s = exactSpiralAngle R L
 
-  first : Term (spiralAngle R L) (s ^ 1) (record { most = 500000000; short = 1000; over = 0 })
+  first : Term (spiralAngle R L) (s ↑ 1) (record { most = 500000000; short = 1000; over = 0 })
   unfolding s
   first = term-same (power-one s (spiral A R L ok .sign)) (spiral A R L ok)
 
-  second : Term (t2 (spiralAngle R L)) (s ^ 2) (record { most = 250000000; short = 2001; over = 0 })
+  second : Term (t2 (spiralAngle R L)) (s ↑ 2) (record { most = 250000000; short = 2001; over = 0 })
   unfolding t2 s
   second = term-power s 1 1 (spiral A R L ok .sign) first first
 
-  near-unit-x : Near scale (unitX (spiralAngle R L)) (nat 1 ⊖ s ^ 2 ⊘ 10 ⊕ s ^ 4 ⊘ 216) 1010 1201
+  near-unit-x : Near scale (unitX (spiralAngle R L)) (nat 1 ⊖ s ↑ 2 ⊘ 10 ⊕ s ↑ 4 ⊘ 216) 1010 1201
   unfolding unitX t4 s
   near-unit-x =
       let fourth = term-power s 2 2 (spiral A R L ok .sign) second second in
@@ -50,7 +50,7 @@ module _ (A R L : ℕ) (ok : CurveInRange A R L) where
       (near-difference (near-nat scale 1) (near-quotient 10 1201 0 (lit< tt) (lit≤ tt) (lit≤ tt) (second .near)))
       (near-quotient 216 1010 0 (lit< tt) (lit≤ tt) (lit≤ tt) (fourth .near))
 
-  near-unit-y : Near scale (unitY (spiralAngle R L)) (s ⊘ 3 ⊖ s ^ 3 ⊘ 42) 1334 1054
+  near-unit-y : Near scale (unitY (spiralAngle R L)) (s ⊘ 3 ⊖ s ↑ 3 ⊘ 42) 1334 1054
   unfolding unitY t3 s
   near-unit-y =
       let third = term-power s 2 1 (spiral A R L ok .sign) second first in

@@ -8,7 +8,7 @@ use lib.Dec.{lit<}
 use lib.IntN.{pos}
 use Rattle.numbers.proofs.Products.{products}
 use Rattle.elements.specs.WorkingRule.{scale, term, alternating}
-use Rattle.accuracy.specs.Fractions.{Fraction, _⊗_, _^_, _⊘_}
+use Rattle.accuracy.specs.Fractions.{Fraction, _⊗_, _↑_, _⊘_}
 use Rattle.accuracy.specs.ExactElements.{alternatingSum, factorial}
 use Rattle.accuracy.proofs.Parts.{plus, minus, as-pos}
 use Rattle.accuracy.proofs.Nearness.{Near, Same}
@@ -57,14 +57,14 @@ bounded g w e c r h k =
 module _ (divisor exponent : ℕ → ℕ) (steps : (j : ℕ) → exponent (suc j) ≡ exponent j + 2) (divides : (j : ℕ) → divisor (suc j) ≡ (exponent j + 1) * (exponent j + 2)) where
   -- Exact term j.
   unfoldable pub exact : Fraction → ℕ → Fraction
-  exact v j = v ^ exponent j ⊘ factorial (exponent j)
+  exact v j = v ↑ exponent j ⊘ factorial (exponent j)
 
-  module _ {first z : ℕ} (v : Fraction) (b c : Bound) (sign : minus (v .top) ≡ zero) (t₀ : Term first (exact v 0) b) (square : Term z (v ^ 2) c) where
+  module _ {first z : ℕ} (v : Fraction) (b c : Bound) (sign : minus (v .top) ≡ zero) (t₀ : Term first (exact v 0) b) (square : Term z (v ↑ 2) c) where
     above : (j : ℕ) → zero < divisor (suc j)
     above j = rw (divides j) (mul-pos (omega arith) (omega arith))
 
     -- The next exact term, from the former.
-    follows : (j : ℕ) → Same (exact v j ⊗ v ^ 2 ⊘ divisor (suc j)) (exact v (suc j))
+    follows : (j : ℕ) → Same (exact v j ⊗ v ↑ 2 ⊘ divisor (suc j)) (exact v (suc j))
     unfolding exact
     follows j = rw (steps j, divides j) (next-term v sign (exponent j))
 
@@ -78,13 +78,13 @@ module _ (divisor exponent : ℕ → ℕ) (steps : (j : ℕ) → exponent (suc j
     smaller g j h =
         record {
           part =
-              smaller-side g (plus (exact v j .top)) (exact v j .under) (plus ((v ^ 2) .top)) ((v ^ 2) .under) (divisor (suc j))
+              smaller-side g (plus (exact v j .top)) (exact v j .under) (plus ((v ↑ 2) .top)) ((v ↑ 2) .under) (divisor (suc j))
               (plus (exact v (suc j) .top))
               (exact v (suc j) .under)
-              ((v ^ 2) .above)
+              ((v ↑ 2) .above)
               (above j)
               (crossed _ _ (divisor (suc j)) (above j) (terms j .sign) (square .sign) (terms (suc j) .sign) (follows j))
-              (bounded g (plus ((v ^ 2) .top)) ((v ^ 2) .under) (divisor (suc j)) (reach c) (reaches square) h);
+              (bounded g (plus ((v ↑ 2) .top)) ((v ↑ 2) .under) (divisor (suc j)) (reach c) (reaches square) h);
         }
 
     -- The divisors of the terms after the eighth: each of these is at most half of the one before.

@@ -8,7 +8,7 @@ use lib.Dec.{lit<}
 use lib.IntN.{ℤ, pos, negsuc}
 use Rattle.numbers.proofs.Products.{products}
 use Rattle.elements.specs.WorkingRule.{scale}
-use Rattle.accuracy.specs.Fractions.{Fraction, _⊗_, _^_, _⊘_}
+use Rattle.accuracy.specs.Fractions.{Fraction, _⊗_, _↑_, _⊘_}
 use Rattle.accuracy.proofs.Parts.{plus, minus, as-pos}
 use Rattle.accuracy.proofs.Nearness.{Near, Same, near-same, near-part, near-down, near-product}
 use Rattle.accuracy.proofs.Powers.{part-top, power-sum}
@@ -103,6 +103,6 @@ module _ {p q : ℕ} {u v : Fraction} {a b : Bound} (c : ℕ) (above : zero < c)
       }
 
 -- Powers of the same angle.
-pub term-power : {p q : ℕ} (v : Fraction) {a b : Bound} (i j : ℕ) → minus (v .top) ≡ zero → Term p (v ^ i) a → Term q (v ^ j) b
-    → Term (p * q / scale) (v ^ (i + j)) (next a b 1)
+pub term-power : {p q : ℕ} (v : Fraction) {a b : Bound} (i j : ℕ) → minus (v .top) ≡ zero → Term p (v ↑ i) a → Term q (v ↑ j) b
+    → Term (p * q / scale) (v ↑ (i + j)) (next a b 1)
 term-power v i j sign h k = term-same (power-sum v sign i j) (term-next 1 (lit< tt) h k)

@@ -9,7 +9,7 @@ use lib.IntN.{ℤ, pos, _*ℤ_}
 use lib.ListN.{length, getD}
 use Rattle.refusals.specs.Filling.{filled}
 use Rattle.line.specs.declared.Line.{Line}
-use Rattle.stationing.specs.Answer.{stationsAnswer, stationsRow}
+use Rattle.stationing.specs.Answer.{stationsIn}
 use Rattle.accuracy.specs.Fractions.{Fraction, whole, nat, _⊖_, _⊗_, _≼_, _≈_}
 use Rattle.accuracy.specs.ExactElements.{documentTerms}
 use Rattle.accuracy.specs.ExactStations.{exactEnd}
@@ -39,9 +39,9 @@ not-above u v h =
 none : {q : ℤ} {v : Fraction} → Within 0 q v → whole q ≈ nat 1000 ⊗ v
 none h = record { at-most = not-above _ _ (h .over); at-least = not-above _ _ (h .short) }
 
-pub exactly-on-the-end : (line : Line) (row : List ℕ) {count : ℕ} → line .count ≡ 0 → stationsAnswer line (length row) ≡ filled count
-    → whole (pos (getD (stationsRow line row) 0 0)) ≈ nat 1000 ⊗ exactEnd documentTerms line
+pub exactly-on-the-end : (line : Line) (row : List ℕ) {count : ℕ} → line .count ≡ 0 → stationsIn line row .reply ≡ filled count
+    → whole (pos (getD (stationsIn line row .buffer) 0 0)) ≈ nat 1000 ⊗ exactEnd documentTerms line
 exactly-on-the-end line row no-curves e =
     none
-    (subst (λ (n : ℕ). Within (tolerance n) (pos (getD (stationsRow line row) (4 * n) 0)) (exactEnd documentTerms line)) no-curves
+    (subst (λ (n : ℕ). Within (tolerance n) (pos (getD (stationsIn line row .buffer) (4 * n) 0)) (exactEnd documentTerms line)) no-curves
     (accuracy line row .stations e .end))

@@ -3,11 +3,10 @@ use mathlib.Core.Path.{_≡_}
 use mathlib.Core.List.{List}
 use Prim.Native.Nat.{ℕ, suc, _+_, _*_, _≤_, _<_}
 use lib.IntN.{ℤ, pos}
-use lib.ListN.{length, getD}
-use Rattle.refusals.specs.Filling.{filled, unfilled}
+use lib.ListN.{getD}
+use Rattle.refusals.specs.Filling.{filled, unfilled, Fill}
 use Rattle.line.specs.declared.Line.{Line}
 use Rattle.elements.specs.WorkingRule.{spiralX, spiralY, centreOf, shiftOf, arcOf, tangentOf}
-use Rattle.stationing.specs.Answer.{stationsAnswer, stationsRow}
 use Rattle.accuracy.specs.Fractions.{Fraction, whole, nat, _⊖_, _⊗_, _⊘_, _≼_, _≺_}
 use Rattle.accuracy.specs.ExactElements.{exactX, exactY, exactCentre, exactShift, exactArc, exactTangent}
 use Rattle.accuracy.specs.ExactStations.{exactArcAt, exactStraightAt, exactFormerST, exactPointsAt, exactEnd}
@@ -93,12 +92,12 @@ pub record ShortArc (line : Line) (place : ℕ) : Type 0 where
   pub inside : entry < line .count
   pub short : exactArcAt line entry ≺ tenths refusedArc
 
--- ---- demand 3, for a line and a row of any length
+-- ---- demand 3, for a line and a call of the calculator: its reply, and what the row then holds
 
--- Where the calculator answers its count, what the row then holds is near the exact stations, and these are in order; where it refuses with
--- 15 or 14, the straight or arc at the place it names is short by the exact values too.
-pub record Accurate (n : ℕ) (line : Line) (row : List ℕ) : Type 0 where
-  pub stations : {count : ℕ} → stationsAnswer line (length row) ≡ filled count → RowWithin n line (stationsRow line row)
-  pub order : {count : ℕ} → stationsAnswer line (length row) ≡ filled count → InExactOrder n line
-  pub short-straight : {place : ℕ} → stationsAnswer line (length row) ≡ unfilled 15 place → ShortStraight n line place
-  pub short-arc : {place : ℕ} → stationsAnswer line (length row) ≡ unfilled 14 place → ShortArc line place
+-- Where it replies its count, the numbers in the row are near the exact stations, and these are in order; where it refuses with 15 or 14, the
+-- straight or arc at the place it names is short by the exact values too.
+pub record Accurate (n : ℕ) (line : Line) (call : Fill ℕ) : Type 0 where
+  pub stations : {count : ℕ} → call .reply ≡ filled count → RowWithin n line (call .buffer)
+  pub order : {count : ℕ} → call .reply ≡ filled count → InExactOrder n line
+  pub short-straight : {place : ℕ} → call .reply ≡ unfilled 15 place → ShortStraight n line place
+  pub short-arc : {place : ℕ} → call .reply ≡ unfilled 14 place → ShortArc line place

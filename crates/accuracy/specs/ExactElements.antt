@@ -3,7 +3,7 @@
 use mathlib.Core.Bool.{cond}
 use Prim.Native.Nat.{ℕ, zero, suc, _+_, _*_, _%_}
 use lib.Dec.{eqb}
-use Rattle.accuracy.specs.Fractions.{Fraction, nat, _⊕_, _⊖_, _⊗_, _^_, _⊘_, ratio}
+use Rattle.accuracy.specs.Fractions.{Fraction, nat, _⊕_, _⊖_, _⊗_, _↑_, _⊘_, ratio}
 
 -- "π is 3,141,592,653,589,793 / 10¹⁵"
 unfoldable pub exactPi : Fraction
@@ -33,11 +33,11 @@ factorial (suc n) = suc n * factorial n
 
 -- "sine and cosine are their power series": v − v³/3! + v⁵/5! − ..
 unfoldable pub exactSine : ℕ → Fraction → Fraction
-exactSine n v = alternatingSum (λ j. v ^ (2 * j + 1) ⊘ factorial (2 * j + 1)) n
+exactSine n v = alternatingSum (λ j. v ↑ (2 * j + 1) ⊘ factorial (2 * j + 1)) n
 
 -- 1 − v²/2! + v⁴/4! − ..
 unfoldable pub exactCosine : ℕ → Fraction → Fraction
-exactCosine n v = alternatingSum (λ j. v ^ (2 * j) ⊘ factorial (2 * j)) n
+exactCosine n v = alternatingSum (λ j. v ↑ (2 * j) ⊘ factorial (2 * j)) n
 
 -- "through powers 15 and 14": eight terms of each
 abbrev pub documentTerms : ℕ
@@ -45,11 +45,11 @@ documentTerms = 8
 
 -- "X = L(1 − s²/10 + s⁴/216)"
 unfoldable pub exactX : ℕ → ℕ → Fraction
-exactX R L = let s = exactSpiralAngle R L in nat L ⊗ (nat 1 ⊖ s ^ 2 ⊘ 10 ⊕ s ^ 4 ⊘ 216)
+exactX R L = let s = exactSpiralAngle R L in nat L ⊗ (nat 1 ⊖ s ↑ 2 ⊘ 10 ⊕ s ↑ 4 ⊘ 216)
 
 -- "Y = L(s/3 − s³/42)"
 unfoldable pub exactY : ℕ → ℕ → Fraction
-exactY R L = let s = exactSpiralAngle R L in nat L ⊗ (s ⊘ 3 ⊖ s ^ 3 ⊘ 42)
+exactY R L = let s = exactSpiralAngle R L in nat L ⊗ (s ⊘ 3 ⊖ s ↑ 3 ⊘ 42)
 
 -- "k = X − R × sine(s)"
 unfoldable pub exactCentre : ℕ → ℕ → ℕ → Fraction

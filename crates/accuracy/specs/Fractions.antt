@@ -18,11 +18,11 @@ whole z = record { top = z; under = 1; above = zero-lt-suc zero }
 abbrev pub nat : ℕ → Fraction
 nat n = whole (pos n)
 
--- ---- sum, difference, product, power
+-- ---- sum, difference, product, and the power `v ↑ n`
 
 infixl 6 _⊕_ _⊖_
 infixl 7 _⊗_ _⊘_
-infixr 8 _^_
+infixr 8 _↑_
 unfoldable pub _⊕_ : Fraction → Fraction → Fraction
 u ⊕ v =
     record {
@@ -42,9 +42,9 @@ u ⊖ v =
 unfoldable pub _⊗_ : Fraction → Fraction → Fraction
 u ⊗ v = record { top = u .top *ℤ v .top; under = u .under * v .under; above = mul-pos (u .above) (v .above) }
 
-unfoldable pub _^_ : Fraction → ℕ → Fraction
-v ^ zero = nat 1
-v ^ suc n = v ^ n ⊗ v
+unfoldable pub _↑_ : Fraction → ℕ → Fraction
+v ↑ zero = nat 1
+v ↑ suc n = v ↑ n ⊗ v
 
 -- ---- quotients, by a natural number and by a fraction; one by zero means nothing, and the laws show that none is taken
 

@@ -4,9 +4,10 @@ ghost use mathlib.Core.List.{_++_};
 ghost use Prim.Native.Nat.{suc, _+_, _≤_};
 ghost use lib.ListN.{length, take, drop};
 ghost use Rattle.refusals.specs.Outcomes.{passed};
-ghost use Rattle.refusals.specs.Filling.{fillReplyOf, countAfter, bufferAfter};
+ghost use Rattle.refusals.specs.Filling.{fillReplyOf, fill};
+ghost use Rattle.refusals.specs.Order.{unchecked, outcome};
 ghost use Rattle.stationing.specs.Stations.{stationRow};
-ghost use Rattle.stationing.specs.Answer.{alignmentOutcome, stationCount, stationsAnswer, stationsRow, roomCheck};
+ghost use Rattle.stationing.specs.Answer.{alignmentChecks, stationCount, stationsIn};
 ghost use Rattle.stationing.specs.Arrays.{StraightsTo, ArcsTo, fourFrom};
 use crate::lengths::Lengths;
 use crate::lengths::lengths_of;
@@ -35,7 +36,7 @@ fn store_curve(row: &mut [u64], at: usize, former: u64, straight: u64, spiral: u
 
 // The stations of a line from its lengths.
 fn write_row(line: Line, lengths: Lengths, row: &mut [u64])
-    requires { ⌜ alignmentOutcome line ≡ passed ⌝ }
+    requires { ⌜ outcome (alignmentChecks line) ≡ passed ⌝ }
     requires { ⌜ StraightsTo line (suc (line .count)) (lengths .straights) × ArcsTo line (line .count) (lengths .arcs) ⌝ }
     requires { ⌜ stationCount line ≤ length (now row) ⌝ }
     ensures { λ _. ⌜ now (row .exit) ≡ stationRow line ++ drop (stationCount line) (now (row .entry)) ⌝ }
@@ -60,10 +61,10 @@ fn write_row(line: Line, lengths: Lengths, row: &mut [u64])
 
 // Refusal 16, or the row of a line whose lengths are known.
 fn fill(line: Line, lengths: Lengths, row: &mut [u64]) -> FillAnswer
-    requires { ⌜ alignmentOutcome line ≡ passed ⌝ }
+    requires { ⌜ outcome (alignmentChecks line) ≡ passed ⌝ }
     requires { ⌜ StraightsTo line (suc (line .count)) (lengths .straights) × ArcsTo line (line .count) (lengths .arcs) ⌝ }
-    ensures { λ a. ⌜ fillReplyOf a ≡ countAfter (roomCheck line (length (now (row .entry)))) (stationCount line) ⌝ }
-    ensures { λ _. ⌜ now (row .exit) ≡ bufferAfter (roomCheck line (length (now (row .entry)))) (stationRow line) (now (row .entry)) ⌝ }
+    ensures { λ a. ⌜ fillReplyOf a ≡ fill unchecked (stationRow line) (now (row .entry)) .reply ⌝ }
+    ensures { λ _. ⌜ now (row .exit) ≡ fill unchecked (stationRow line) (now (row .entry)) .buffer ⌝ }
 {
     let count = 4 * line.count + 1;
     if row.len() < count {
@@ -78,8 +79,8 @@ fn fill(line: Line, lengths: Lengths, row: &mut [u64]) -> FillAnswer
 // order: 3 to 6, 8 to 11, then 12, 13, 14 curve by curve, then 15 by ascending distance, then 16; a refusal leaves `row` as
 // it was. Any line and any row are taken; unused entries and the sides of the curves change nothing.
 pub fn stations(line: Line, row: &mut [u64]) -> FillAnswer
-    ensures answer { λ a. ⌜ fillReplyOf a ≡ stationsAnswer line (length (now (row .entry))) ⌝ }
-    ensures memory { λ _. ⌜ now (row .exit) ≡ stationsRow line (now (row .entry)) ⌝ }
+    ensures answer { λ a. ⌜ fillReplyOf a ≡ stationsIn line (now (row .entry)) .reply ⌝ }
+    ensures memory { λ _. ⌜ now (row .exit) ≡ stationsIn line (now (row .entry)) .buffer ⌝ }
 {
     let lengths = lengths_of(line);
     let verdict = lengths.verdict;

@@ -6,12 +6,13 @@ use Rattle.numbers.specs.Whole.{_÷_}
 use Rattle.numbers.proofs.Differences.{minus-le}
 use Rattle.refusals.specs.Table.{numberOf, placeOf}
 use Rattle.refusals.specs.Outcomes.{outcomeOf}
-use Rattle.line.specs.Checks.{curveOutcome}
+use Rattle.line.specs.Checks.{curveChecks}
 use Rattle.refusals.specs.declared.Refusal.{Refusal}
 use Rattle.refusals.specs.declared.Verdict.{Verdict}
 use Rattle.refusals.specs.declared.Verdict.the-variants.{Pass, Refused}
+use Rattle.refusals.specs.Order.{outcome}
 use Rattle.elements.specs.WorkingRule.{scale, rounded, halfAngle, sineOf, cosineOf, spiralX, spiralY, centreOf, shiftOf, arcOf, tanOf, tangentOf}
-use Rattle.elements.specs.Answer.{answered, declined, valuesBy, arcOutcome, elementOutcome, replyTo, elementReply}
+use Rattle.elements.specs.Answer.{answered, declined, valuesBy, arcCheck, elementChecks, replyTo, elementReply}
 
 -- ---- X and k, or Y and p
 
@@ -47,11 +48,11 @@ pub computed-values : (A R L : ℕ) {x y k p d tt : ℕ} → pos x ≡ spiralX R
 unfolding valuesBy
 computed-values A R L ex ey ek ep ed et = rw (ex, ey, ek, ep, ed, et)
 
-module _ (A R L : ℕ) {v : Verdict} (e : outcomeOf v ≡ curveOutcome A R L 0) where
+module _ (A R L : ℕ) {v : Verdict} (e : outcomeOf v ≡ outcome (curveChecks A R L 0)) where
   pub reply-refused : {r : Refusal} → v ≡ Refused r → declined (numberOf r) (placeOf r) ≡ elementReply A R L
-  unfolding elementReply elementOutcome
+  unfolding elementReply elementChecks
   reply-refused {r} q = rw (← e, q)
 
-  pub reply-passed : v ≡ Pass → replyTo (arcOutcome A R L 0) (valuesBy A R L) ≡ elementReply A R L
-  unfolding elementReply elementOutcome
+  pub reply-passed : v ≡ Pass → replyTo (outcome (arcCheck A R L 0)) (valuesBy A R L) ≡ elementReply A R L
+  unfolding elementReply elementChecks
   reply-passed q = rw (← e, q)

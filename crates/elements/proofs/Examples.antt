@@ -3,9 +3,9 @@ use mathlib.Core.Path.{_≡_, refl}
 use Prim.Native.Nat.{ℕ}
 use native.Mathlib.Nat.{mul-zero, zero-div}
 use lib.IntN.{pos, negsuc}
-use Rattle.line.specs.Checks.{curveOutcome}
+use Rattle.line.specs.Checks.{curveChecks}
 use Rattle.elements.specs.WorkingRule.{rounded, fullAngle, halfAngle, spiralAngle, term, alternating, sineOf, cosineOf, t2, t3, t4, unitX, unitY, spiralX, spiralY, centreOf, shiftOf, arcOf, tanOf, tangentOf}
-use Rattle.elements.specs.Answer.{answered, declined, valuesBy, arcOutcome, elementOutcome, elementReply}
+use Rattle.elements.specs.Answer.{answered, declined, valuesBy, arcCheck, elementChecks, elementReply}
 
 -- R 350,000 and L 40,000 in each; case 8 is without spirals.
 pub record Examples : Type 0 where
@@ -21,7 +21,7 @@ pub record Examples : Type 0 where
   pub case-8-refused : elementReply 1 200000 0 ≡ declined 14 0
 
 pub examples : Examples
-unfolding curveOutcome rounded fullAngle halfAngle spiralAngle term alternating sineOf cosineOf t2 t3 t4 unitX unitY spiralX spiralY centreOf shiftOf arcOf tanOf tangentOf valuesBy arcOutcome elementOutcome elementReply
+unfolding curveChecks rounded fullAngle halfAngle spiralAngle term alternating sineOf cosineOf t2 t3 t4 unitX unitY spiralX spiralY centreOf shiftOf arcOf tanOf tangentOf valuesBy arcCheck elementChecks elementReply
 examples =
     record {
       case-1 = refl;

@@ -3,8 +3,9 @@ use Prim.Native.Nat.{ℕ}
 use lib.IntN.{ℤ, pos}
 use lib.Signed.{leZ}
 use Rattle.refusals.specs.Table.{numberOf, placeOf}
-use Rattle.refusals.specs.Outcomes.{Outcome, passed, refused, need, _▹_}
-use Rattle.line.specs.Checks.{curveOutcome}
+use Rattle.refusals.specs.Outcomes.{Outcome, passed, refused}
+use Rattle.refusals.specs.Order.{Checks, check, _⨾_, outcome}
+use Rattle.line.specs.Checks.{curveChecks}
 use Rattle.elements.specs.declared.ElementAnswer.{ElementAnswer}
 use Rattle.elements.specs.declared.ElementAnswer.the-variants.{Found, Refused}
 use Rattle.elements.specs.WorkingRule.{spiralX, spiralY, centreOf, shiftOf, arcOf, tangentOf}
@@ -50,12 +51,12 @@ valuesBy A R L =
     }
 
 -- 14: "arc D under 1,000 µm"
-unfoldable pub arcOutcome : ℕ → ℕ → ℕ → ℕ → Outcome
-arcOutcome A R L place = need (leZ (pos 1000) (arcOf A R L)) 14 place
+unfoldable pub arcCheck : ℕ → ℕ → ℕ → ℕ → Checks
+arcCheck A R L place = check (leZ (pos 1000) (arcOf A R L)) 14 place
 
 -- "checks 9, 10, 11, 14 with place 0"
-unfoldable pub elementOutcome : ℕ → ℕ → ℕ → Outcome
-elementOutcome A R L = curveOutcome A R L 0 ▹ arcOutcome A R L 0
+unfoldable pub elementChecks : ℕ → ℕ → ℕ → Checks
+elementChecks A R L = curveChecks A R L 0 ⨾ arcCheck A R L 0
 
 -- The values where the checks pass, else the refusal.
 abbrev pub replyTo : Outcome → Values → Reply
@@ -64,4 +65,4 @@ replyTo (refused number place) values = declined number place
 
 -- What the call answers.
 unfoldable pub elementReply : ℕ → ℕ → ℕ → Reply
-elementReply A R L = replyTo (elementOutcome A R L) (valuesBy A R L)
+elementReply A R L = replyTo (outcome (elementChecks A R L)) (valuesBy A R L)

@@ -2,9 +2,10 @@
 ghost use mathlib.Core.Path.{_≡_};
 ghost use Prim.Native.Nat.{_*_, _/_, _<_, _≤_};
 ghost use lib.IntN.{pos};
+ghost use Rattle.refusals.specs.Order.{outcome};
 ghost use Rattle.line.specs.Ranges.{CurveInRange};
 ghost use Rattle.elements.specs.WorkingRule.{scale, rounded, fullAngle, halfAngle, spiralAngle, unitX, unitY, arcOf, tanOf};
-ghost use Rattle.elements.specs.Answer.{answered, replyOf, replyTo, valuesBy, arcOutcome, elementReply};
+ghost use Rattle.elements.specs.Answer.{answered, replyOf, replyTo, valuesBy, arcCheck, elementReply};
 ghost use Rattle.elements.specs.SpiralElements.{OffsetOf, SpiralsOf};
 ghost use Rattle.elements.specs.declared.ElementAnswer.the-variants.{Found};
 use crate::ElementAnswer;
@@ -153,7 +154,7 @@ fn elements_of(deflection: u64, radius: u64, spiral: u64, arc: u64) -> Elements
 // The elements of a curve in range, or refusal 14.
 fn elements_or_short(deflection: u64, radius: u64, spiral: u64) -> ElementAnswer
     requires { ⌜ CurveInRange deflection radius spiral ⌝ }
-    ensures { λ a. ⌜ replyOf a ≡ replyTo (arcOutcome deflection radius spiral 0) (valuesBy deflection radius spiral) ⌝ }
+    ensures { λ a. ⌜ replyOf a ≡ replyTo (outcome (arcCheck deflection radius spiral 0)) (valuesBy deflection radius spiral) ⌝ }
 {
     let turn = micrometres(radius, full_angle(deflection));
     let spirals = 1000 * spiral;

@@ -6,10 +6,11 @@ use mathlib.Core.List.{List, [], _∷_, _++_}
 use Prim.Native.Nat.{ℕ}
 use lib.ListN.{replicate}
 use Rattle.refusals.specs.Outcomes.{passed, refused}
+use Rattle.refusals.specs.Order.{outcome}
 use Rattle.line.specs.declared.Curve.{Curve}
 use Rattle.line.specs.declared.Line.{Line}
 use Rattle.line.specs.Entries.{lineAfter}
-use Rattle.line.specs.Checks.{startOutcome, headOutcome, distanceOutcome, curveOutcome, bodyOutcome, lineOutcome}
+use Rattle.line.specs.Checks.{startCheck, headChecks, distanceCheck, curveChecks, bodyChecks, lineChecks}
 
 -- A curve with radius R and spiral length L.
 abbrev curve : ℕ → ℕ → ℕ → Curve
@@ -27,19 +28,19 @@ abbrev bad : Curve
 bad = curve 0 0 1
 
 pub record Examples : Type 0 where
-  pub full-line : lineOutcome (lineOf 64 0 (replicate 65 500000) (replicate 64 good)) ≡ passed
-  pub distance-64 : lineOutcome (lineOf 64 0 (replicate 64 500000 ++ (0 ∷ [])) (replicate 64 good)) ≡ refused 8 64
-  pub curve-64 : lineOutcome (lineOf 64 0 (replicate 64 500000 ++ (0 ∷ [])) (replicate 63 good ++ (curve 1 350000 350001 ∷ []))) ≡ refused 11 64
-  pub distance-before-curve : lineOutcome (lineOf 64 0 (replicate 65 0) (replicate 64 bad)) ≡ refused 8 0
-  pub deflection-before-radius : lineOutcome (lineOf 64 0 (replicate 65 500000) (replicate 64 bad)) ≡ refused 9 1
-  pub start-before-distance : lineOutcome (lineOf 64 200000001 (replicate 65 0) (replicate 64 bad)) ≡ refused 6 0
-  pub count-before-start : lineOutcome (lineOf 65 200000001 (replicate 65 0) (replicate 64 bad)) ≡ refused 3 0
+  pub full-line : outcome (lineChecks (lineOf 64 0 (replicate 65 500000) (replicate 64 good))) ≡ passed
+  pub distance-64 : outcome (lineChecks (lineOf 64 0 (replicate 64 500000 ++ (0 ∷ [])) (replicate 64 good))) ≡ refused 8 64
+  pub curve-64 : outcome (lineChecks (lineOf 64 0 (replicate 64 500000 ++ (0 ∷ [])) (replicate 63 good ++ (curve 1 350000 350001 ∷ [])))) ≡ refused 11 64
+  pub distance-before-curve : outcome (lineChecks (lineOf 64 0 (replicate 65 0) (replicate 64 bad))) ≡ refused 8 0
+  pub deflection-before-radius : outcome (lineChecks (lineOf 64 0 (replicate 65 500000) (replicate 64 bad))) ≡ refused 9 1
+  pub start-before-distance : outcome (lineChecks (lineOf 64 200000001 (replicate 65 0) (replicate 64 bad))) ≡ refused 6 0
+  pub count-before-start : outcome (lineChecks (lineOf 65 200000001 (replicate 65 0) (replicate 64 bad))) ≡ refused 3 0
   pub after-a-refusal : lineAfter (refused 8 0) (lineOf 1 0 (1 ∷ replicate 64 0) (replicate 64 good))
       ≡ record { speed = 0; crossfall = 0; start = 0; count = 0; distances = replicate 65 0; curves = replicate 64 (curve 0 0 0) }
-  pub unused-entries : lineOutcome (lineOf 0 0 (1 ∷ replicate 64 0) (replicate 64 bad)) ≡ passed
+  pub unused-entries : outcome (lineChecks (lineOf 0 0 (1 ∷ replicate 64 0) (replicate 64 bad))) ≡ passed
 
 pub examples : Examples
-unfolding startOutcome headOutcome distanceOutcome curveOutcome bodyOutcome lineOutcome
+unfolding startCheck headChecks distanceCheck curveChecks bodyChecks lineChecks
 examples =
     record {
       full-line = refl;

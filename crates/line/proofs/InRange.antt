@@ -11,7 +11,8 @@ use borrow.Author.Tests.{leb-true, eqb-true, le-leb, eq-eqb}
 use Rattle.numbers.proofs.Tests.{both-left, both-right}
 use Rattle.line.specs.declared.Line.{Line}
 use Rattle.refusals.specs.Outcomes.{passed, need}
-use Rattle.line.specs.Checks.{within, greatestStart, startOutcome, headOutcome, distanceOutcome, curveOutcome, distanceAt, curveAt, bodyOutcome, lineOutcome}
+use Rattle.refusals.specs.Order.{outcome}
+use Rattle.line.specs.Checks.{within, greatestStart, startCheck, headChecks, distanceCheck, curveChecks, distanceAt, curveAt, bodyChecks, lineChecks}
 use Rattle.line.specs.Ranges.{CurveInRange, LineInRange}
 use Rattle.refusals.proofs.Joining.{passed-left, passed-right, need-holds}
 
@@ -23,8 +24,8 @@ within-most least most x e = leb-true x most (both-right (leb least x) _ e)
 
 -- ---- a curve
 
-pub curve-in-range : (A R L place : ℕ) → curveOutcome A R L place ≡ passed → CurveInRange A R L
-unfolding curveOutcome
+pub curve-in-range : (A R L place : ℕ) → outcome (curveChecks A R L place) ≡ passed → CurveInRange A R L
+unfolding curveChecks
 curve-in-range A R L place h =
     let a = need-holds _ 9 place (passed-left (need (within 1 432000 A) 9 place) _ h) in
     let h₁ = passed-right (need (within 1 432000 A) 9 place) _ h in
@@ -39,8 +40,8 @@ curve-in-range A R L place h =
       L-to-R = leb-true L R (both-right (leb L 500000) _ l);
     }
 
-pub curve-passes : (A R L place : ℕ) → CurveInRange A R L → curveOutcome A R L place ≡ passed
-unfolding curveOutcome
+pub curve-passes : (A R L place : ℕ) → CurveInRange A R L → outcome (curveChecks A R L place) ≡ passed
+unfolding curveChecks
 curve-passes A R L place k =
     rw (
       le-leb 1 A (k .A-least),
@@ -53,11 +54,11 @@ curve-passes A R L place k =
 
 -- ---- the distances and curves of a line
 
-body-below : (l : Line) (i k : ℕ) → k ≤ i → bodyOutcome l i ≡ passed → bodyOutcome l k ≡ passed
-unfolding bodyOutcome
+body-below : (l : Line) (i k : ℕ) → k ≤ i → outcome (bodyChecks l i) ≡ passed → outcome (bodyChecks l k) ≡ passed
+unfolding bodyChecks
 body-below l zero k h e = rw (le-zero h) e
 body-below l (suc i) k h e =
-    ⊎-elim (λ m. body-below l i k m (passed-left (bodyOutcome l i) _ e)) (λ m. rw m e) (le-split k i h)
+    ⊎-elim (λ m. body-below l i k m (passed-left (outcome (bodyChecks l i)) _ e)) (λ m. rw m e) (le-split k i h)
   where
     le-split : (k i : ℕ) → k ≤ suc i → (k ≤ i) ⊎ (k ≡ suc i)
     le-split k i h = go (decLe k i)
@@ -67,36 +68,36 @@ body-below l (suc i) k h e =
         go (no m) = inr (omega arith)
 
 -- The distance of the last entry of a body that passes, and the curve before it.
-last-distance : (l : Line) (i : ℕ) → bodyOutcome l i ≡ passed → within 1 20000000 (distanceAt l i) ≡ true
-unfolding bodyOutcome distanceOutcome
+last-distance : (l : Line) (i : ℕ) → outcome (bodyChecks l i) ≡ passed → within 1 20000000 (distanceAt l i) ≡ true
+unfolding bodyChecks distanceCheck
 last-distance l zero e = need-holds _ 8 0 e
 last-distance l (suc i) e =
     let c = curveAt l i in
     need-holds _ 8 (suc i)
-    (passed-right (curveOutcome (c .deflection) (c .radius) (c .spiral) (suc i)) _ (passed-right (bodyOutcome l i) _ e))
+    (passed-right (outcome (curveChecks (c .deflection) (c .radius) (c .spiral) (suc i))) _ (passed-right (outcome (bodyChecks l i)) _ e))
 
-last-curve : (l : Line) (i : ℕ) → bodyOutcome l (suc i) ≡ passed
+last-curve : (l : Line) (i : ℕ) → outcome (bodyChecks l (suc i)) ≡ passed
     → CurveInRange (curveAt l i .deflection) (curveAt l i .radius) (curveAt l i .spiral)
-unfolding bodyOutcome
+unfolding bodyChecks
 last-curve l i e =
     let c = curveAt l i in
     curve-in-range _ _ _ (suc i)
-    (passed-left (curveOutcome (c .deflection) (c .radius) (c .spiral) (suc i)) _ (passed-right (bodyOutcome l i) _ e))
+    (passed-left (outcome (curveChecks (c .deflection) (c .radius) (c .spiral) (suc i))) _ (passed-right (outcome (bodyChecks l i)) _ e))
 
 -- ---- the head, and a whole line
 
-pub few-curves : (n v e s : ℕ) → headOutcome n v e s ≡ passed → n ≤ 64
-unfolding headOutcome
+pub few-curves : (n v e s : ℕ) → outcome (headChecks n v e s) ≡ passed → n ≤ 64
+unfolding headChecks
 few-curves n v e s h = leb-true n 64 (need-holds _ 3 0 (passed-left (need (leb n 64) 3 0) _ h))
 
-pub line-in-range : (l : Line) → lineOutcome l ≡ passed → LineInRange l
-unfolding lineOutcome headOutcome startOutcome
+pub line-in-range : (l : Line) → outcome (lineChecks l) ≡ passed → LineInRange l
+unfolding lineChecks headChecks startCheck
 line-in-range l h =
     let n = l .count in
     let v = l .speed in
     let e = l .crossfall in
-    let head = passed-left (headOutcome n v e (l .start)) _ h in
-    let body = passed-right (headOutcome n v e (l .start)) (bodyOutcome l n) h in
+    let head = passed-left (outcome (headChecks n v e (l .start))) _ h in
+    let body = passed-right (outcome (headChecks n v e (l .start))) (outcome (bodyChecks l n)) h in
     let h₁ = passed-right (need (leb n 64) 3 0) _ head in
     let speed = need-holds (within 40 120 v && eqb (v % 10) 0) 4 0 (passed-left (need (within 40 120 v && eqb (v % 10) 0) 4 0) _ h₁) in
     let h₂ = passed-right (need (within 40 120 v && eqb (v % 10) 0) 4 0) _ h₁ in
@@ -119,8 +120,8 @@ line-in-range l h =
 within-holds : (least most x : ℕ) → least ≤ x → x ≤ most → within least most x ≡ true
 within-holds least most x l h = rw (le-leb least x l, le-leb x most h)
 
-body-passes : (l : Line) → LineInRange l → (i : ℕ) → i ≤ l .count → bodyOutcome l i ≡ passed
-unfolding bodyOutcome distanceOutcome
+body-passes : (l : Line) → LineInRange l → (i : ℕ) → i ≤ l .count → outcome (bodyChecks l i) ≡ passed
+unfolding bodyChecks distanceCheck
 body-passes l ok zero h = rw (within-holds 1 20000000 (distanceAt l 0) (ok .distance-least 0 h) (ok .distance-most 0 h))
 body-passes l ok (suc i) h =
     let c = curveAt l i in
@@ -130,8 +131,8 @@ body-passes l ok (suc i) h =
       within-holds 1 20000000 (distanceAt l (suc i)) (ok .distance-least (suc i) h) (ok .distance-most (suc i) h),
     )
 
-pub line-passes : (l : Line) → LineInRange l → lineOutcome l ≡ passed
-unfolding lineOutcome headOutcome startOutcome
+pub line-passes : (l : Line) → LineInRange l → outcome (lineChecks l) ≡ passed
+unfolding lineChecks headChecks startCheck
 line-passes l ok =
     rw (
       le-leb (l .count) 64 (ok .few),

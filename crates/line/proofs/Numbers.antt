@@ -4,17 +4,18 @@ use Prim.Native.Nat.{ℕ, zero, suc, _%_, _≤_}
 use native.Mathlib.Omega.{arith}
 use lib.Dec.{leb, eqb}
 use Rattle.refusals.specs.Outcomes.{need, _▹_}
+use Rattle.refusals.specs.Order.{outcome}
 use Rattle.refusals.proofs.Numbers.{Refuses, one-number, joined-numbers}
 use Rattle.line.specs.declared.Line.{Line}
-use Rattle.line.specs.Checks.{within, greatestStart, startOutcome, headOutcome, distanceOutcome, curveOutcome, distanceAt, curveAt, bodyOutcome, lineOutcome}
+use Rattle.line.specs.Checks.{within, greatestStart, startCheck, headChecks, distanceCheck, curveChecks, distanceAt, curveAt, bodyChecks, lineChecks}
 
 module _ {far : ℕ} where
-  distance-numbers : (distance index : ℕ) → index ≤ far → Refuses 3 11 far (distanceOutcome distance index)
-  unfolding distanceOutcome
+  distance-numbers : (distance index : ℕ) → index ≤ far → Refuses 3 11 far (outcome (distanceCheck distance index))
+  unfolding distanceCheck
   distance-numbers distance index h = one-number (within 1 20000000 distance) 8 index (omega arith) (omega arith) h
 
-  pub curve-numbers : (A R L place : ℕ) → place ≤ far → Refuses 3 11 far (curveOutcome A R L place)
-  unfolding curveOutcome
+  pub curve-numbers : (A R L place : ℕ) → place ≤ far → Refuses 3 11 far (outcome (curveChecks A R L place))
+  unfolding curveChecks
   curve-numbers A R L place h =
       let a = within 1 432000 A in
       let r = within 20000 5000000 R in
@@ -22,8 +23,8 @@ module _ {far : ℕ} where
       joined-numbers (need a 9 place) (need r 10 place ▹ need l 11 place) (one-number a 9 place (omega arith) (omega arith) h)
       (joined-numbers (need r 10 place) (need l 11 place) (one-number r 10 place (omega arith) (omega arith) h) (one-number l 11 place (omega arith) (omega arith) h))
 
-  pub head-numbers : (n v e s : ℕ) → Refuses 3 11 far (headOutcome n v e s)
-  unfolding headOutcome startOutcome
+  pub head-numbers : (n v e s : ℕ) → Refuses 3 11 far (outcome (headChecks n v e s))
+  unfolding headChecks startCheck
   head-numbers n v e s =
       let few = leb n 64 in
       let speed = within 40 120 v && eqb (v % 10) 0 in
@@ -34,18 +35,18 @@ module _ {far : ℕ} where
       (joined-numbers (need speed 4 0) (need fall 5 0 ▹ need start 6 0) (one-number speed 4 0 (omega arith) (omega arith) first)
       (joined-numbers (need fall 5 0) (need start 6 0) (one-number fall 5 0 (omega arith) (omega arith) first) (one-number start 6 0 (omega arith) (omega arith) first)))
 
-  pub body-numbers : (line : Line) (i : ℕ) → i ≤ far → Refuses 3 11 far (bodyOutcome line i)
-  unfolding bodyOutcome
+  pub body-numbers : (line : Line) (i : ℕ) → i ≤ far → Refuses 3 11 far (outcome (bodyChecks line i))
+  unfolding bodyChecks
   body-numbers line zero h = distance-numbers (distanceAt line 0) 0 h
   body-numbers line (suc i) h =
       let c = curveAt line i in
-      let curve = curveOutcome (c .deflection) (c .radius) (c .spiral) (suc i) in
-      let distance = distanceOutcome (distanceAt line (suc i)) (suc i) in
-      joined-numbers (bodyOutcome line i) (curve ▹ distance) (body-numbers line i (omega arith))
+      let curve = outcome (curveChecks (c .deflection) (c .radius) (c .spiral) (suc i)) in
+      let distance = outcome (distanceCheck (distanceAt line (suc i)) (suc i)) in
+      joined-numbers (outcome (bodyChecks line i)) (curve ▹ distance) (body-numbers line i (omega arith))
       (joined-numbers curve distance (curve-numbers _ _ _ (suc i) h) (distance-numbers _ (suc i) h))
 
-pub line-numbers : (line : Line) → Refuses 3 11 (line .count) (lineOutcome line)
-unfolding lineOutcome
+pub line-numbers : (line : Line) → Refuses 3 11 (line .count) (outcome (lineChecks line))
+unfolding lineChecks
 line-numbers line =
-    let head = headOutcome (line .count) (line .speed) (line .crossfall) (line .start) in
-    joined-numbers head (bodyOutcome line (line .count)) (head-numbers _ _ _ _) (body-numbers line (line .count) (omega arith))
+    let head = outcome (headChecks (line .count) (line .speed) (line .crossfall) (line .start)) in
+    joined-numbers head (outcome (bodyChecks line (line .count))) (head-numbers _ _ _ _) (body-numbers line (line .count) (omega arith))

@@ -2,16 +2,17 @@
 use mathlib.Core.Path.{_≡_, refl, ap}
 use Prim.Native.Nat.{ℕ, zero, suc, _≤_, _<_}
 use native.Mathlib.Omega.{arith}
+use Rattle.refusals.specs.Order.{outcome}
 use Rattle.line.specs.declared.Curve.{Curve}
 use Rattle.line.specs.declared.Line.{Line}
-use Rattle.line.specs.Checks.{distanceAt, blankCurve, curveAt, bodyOutcome, lineOutcome}
+use Rattle.line.specs.Checks.{distanceAt, blankCurve, curveAt, bodyChecks, lineChecks}
 use Rattle.line.specs.Entries.{cleared}
 use Rattle.line.specs.Ranges.{AlikeWhereUsed}
 use Rattle.line.proofs.Entries.{entries-get}
 
 module _ (l m : Line) (alike : AlikeWhereUsed l m) where
-  same-body : (i : ℕ) → i ≤ l .count → bodyOutcome l i ≡ bodyOutcome m i
-  unfolding bodyOutcome
+  same-body : (i : ℕ) → i ≤ l .count → outcome (bodyChecks l i) ≡ outcome (bodyChecks m i)
+  unfolding bodyChecks
   same-body zero h = rw (alike .distance 0 h)
   same-body (suc i) h =
       rw (
@@ -22,8 +23,8 @@ module _ (l m : Line) (alike : AlikeWhereUsed l m) where
         alike .distance (suc i) h,
       )
 
-  pub unused-ignored : lineOutcome l ≡ lineOutcome m
-  unfolding lineOutcome
+  pub unused-ignored : outcome (lineChecks l) ≡ outcome (lineChecks m)
+  unfolding lineChecks
   unused-ignored =
       rw (same-body (l .count) (omega arith), alike .count, alike .speed, alike .crossfall, alike .start)
 

@@ -5,7 +5,7 @@ use lib.Dec.{leb, eqb}
 use lib.ListN.{getD}
 use Rattle.line.specs.declared.Curve.{Curve}
 use Rattle.line.specs.declared.Line.{Line}
-use Rattle.refusals.specs.Outcomes.{Outcome, need, _▹_}
+use Rattle.refusals.specs.Order.{Checks, check, _⨾_}
 
 -- `least` to `most`, both included.
 abbrev pub within : ℕ → ℕ → ℕ → Bool
@@ -16,27 +16,27 @@ abbrev pub greatestStart : ℕ
 greatestStart = 200000000
 
 -- 6: the start
-unfoldable pub startOutcome : ℕ → Outcome
-startOutcome start = need (leb start greatestStart) 6 0
+unfoldable pub startCheck : ℕ → Checks
+startCheck start = check (leb start greatestStart) 6 0
 
 -- 3 to 6: "n curves (0 to 64)", V "40, 50, .. 120 only", e "2 to 12", the start
-unfoldable pub headOutcome : ℕ → ℕ → ℕ → ℕ → Outcome
-headOutcome count speed crossfall start =
-    need (leb count 64) 3 0
-    ▹ need (within 40 120 speed && eqb (speed % 10) 0) 4 0
-    ▹ need (within 2 12 crossfall) 5 0
-    ▹ startOutcome start
+unfoldable pub headChecks : ℕ → ℕ → ℕ → ℕ → Checks
+headChecks count speed crossfall start =
+    check (leb count 64) 3 0
+    ⨾ check (within 40 120 speed && eqb (speed % 10) 0) 4 0
+    ⨾ check (within 2 12 crossfall) 5 0
+    ⨾ startCheck start
 
 -- 8: "1 to 20,000,000 mm"
-unfoldable pub distanceOutcome : ℕ → ℕ → Outcome
-distanceOutcome distance index = need (within 1 20000000 distance) 8 index
+unfoldable pub distanceCheck : ℕ → ℕ → Checks
+distanceCheck distance index = check (within 1 20000000 distance) 8 index
 
 -- 9, 10, 11 within a curve: A "1 to 432,000 seconds", R "20,000 to 5,000,000 mm", L "0 to 500,000 mm and at most R"
-unfoldable pub curveOutcome : ℕ → ℕ → ℕ → ℕ → Outcome
-curveOutcome A R L place =
-    need (within 1 432000 A) 9 place
-    ▹ need (within 20000 5000000 R) 10 place
-    ▹ need (leb L 500000 && leb L R) 11 place
+unfoldable pub curveChecks : ℕ → ℕ → ℕ → ℕ → Checks
+curveChecks A R L place =
+    check (within 1 432000 A) 9 place
+    ⨾ check (within 20000 5000000 R) 10 place
+    ⨾ check (leb L 500000 && leb L R) 11 place
 
 -- The distance of an index, 0 to n.
 abbrev pub distanceAt : Line → ℕ → ℕ
@@ -51,15 +51,15 @@ abbrev pub curveAt : Line → ℕ → Curve
 curveAt line i = getD (line .curves) i blankCurve
 
 -- "8 to 11 in sheet order": distance 0, curve 1, distance 1, .. up to curve i and distance i
-unfoldable pub bodyOutcome : Line → ℕ → Outcome
-bodyOutcome line zero = distanceOutcome (distanceAt line 0) 0
-bodyOutcome line (suc i) =
-    bodyOutcome line i
-    ▹ curveOutcome (curveAt line i .deflection) (curveAt line i .radius) (curveAt line i .spiral) (suc i)
-    ▹ distanceOutcome (distanceAt line (suc i)) (suc i)
+unfoldable pub bodyChecks : Line → ℕ → Checks
+bodyChecks line zero = distanceCheck (distanceAt line 0) 0
+bodyChecks line (suc i) =
+    bodyChecks line i
+    ⨾ curveChecks (curveAt line i .deflection) (curveAt line i .radius) (curveAt line i .spiral) (suc i)
+    ⨾ distanceCheck (distanceAt line (suc i)) (suc i)
 
--- The first refusal of a line's fields: "3 to 6, 8 to 11 likewise"
-unfoldable pub lineOutcome : Line → Outcome
-lineOutcome line =
-    headOutcome (line .count) (line .speed) (line .crossfall) (line .start)
-    ▹ bodyOutcome line (line .count)
+-- Those of a line's fields: "3 to 6, 8 to 11 likewise"
+unfoldable pub lineChecks : Line → Checks
+lineChecks line =
+    headChecks (line .count) (line .speed) (line .crossfall) (line .start)
+    ⨾ bodyChecks line (line .count)

@@ -3,7 +3,8 @@ ghost use mathlib.Core.Path.{_≡_};
 ghost use mathlib.Core.Bool.{_&&_};
 ghost use Prim.Native.Nat.{_≤_};
 ghost use Rattle.refusals.specs.Outcomes.{outcomeOf, _▹_};
-ghost use Rattle.line.specs.Checks.{within, startOutcome, headOutcome, distanceOutcome, curveOutcome, bodyOutcome, lineOutcome};
+ghost use Rattle.refusals.specs.Order.{outcome};
+ghost use Rattle.line.specs.Checks.{within, startCheck, headChecks, distanceCheck, curveChecks, bodyChecks, lineChecks};
 use crate::Curve;
 use crate::Line;
 use refusals::Refusal;
@@ -26,7 +27,7 @@ fn both(a: bool, b: bool) -> bool
 
 // Refusal 6: the start station, in mm.
 fn check_start(start: u32) -> Verdict
-    ensures { λ r. ⌜ outcomeOf r ≡ startOutcome start ⌝ }
+    ensures { λ r. ⌜ outcomeOf r ≡ outcome (startCheck start) ⌝ }
 {
     must(start <= 200000000, Refusal::Start)
 }
@@ -34,7 +35,7 @@ fn check_start(start: u32) -> Verdict
 // The first of refusals 3 to 6: the number of curves, the design speed in km/h, the crossfall in
 // percent and the start station in mm.
 pub fn check_head(count: usize, speed: u32, crossfall: u32, start: u32) -> Verdict
-    ensures { λ r. ⌜ outcomeOf r ≡ headOutcome count speed crossfall start ⌝ }
+    ensures { λ r. ⌜ outcomeOf r ≡ outcome (headChecks count speed crossfall start) ⌝ }
 {
     let n = must(count <= 64, Refusal::CurveCount);
     let v = must(
@@ -48,7 +49,7 @@ pub fn check_head(count: usize, speed: u32, crossfall: u32, start: u32) -> Verdi
 
 // Refusal 8: the distance of an index, in mm.
 fn check_distance(distance: u32, index: u16) -> Verdict
-    ensures { λ r. ⌜ outcomeOf r ≡ distanceOutcome distance index ⌝ }
+    ensures { λ r. ⌜ outcomeOf r ≡ outcome (distanceCheck distance index) ⌝ }
 {
     must(between(1, 20000000, distance), Refusal::Distance(index))
 }
@@ -56,7 +57,7 @@ fn check_distance(distance: u32, index: u16) -> Verdict
 // The first of refusals 9 to 11: a curve's deflection in seconds of arc, its radius and its spiral
 // in mm. `place` is the curve's number, or 0 for a curve of no line.
 pub fn check_curve(deflection: u32, radius: u32, spiral: u32, place: u16) -> Verdict
-    ensures { λ r. ⌜ outcomeOf r ≡ curveOutcome deflection radius spiral place ⌝ }
+    ensures { λ r. ⌜ outcomeOf r ≡ outcome (curveChecks deflection radius spiral place) ⌝ }
 {
     let a = must(between(1, 432000, deflection), Refusal::Deflection(place));
     let r = must(between(20000, 5000000, radius), Refusal::Radius(place));
@@ -69,7 +70,7 @@ pub fn check_curve(deflection: u32, radius: u32, spiral: u32, place: u16) -> Ver
 
 // A curve and the distance after it, which have the same place.
 fn check_entry(curve: Curve, distance: u32, place: u16) -> Verdict
-    ensures { λ r. ⌜ outcomeOf r ≡ (curveOutcome (curve .deflection) (curve .radius) (curve .spiral) place ▹ distanceOutcome distance place) ⌝ }
+    ensures { λ r. ⌜ outcomeOf r ≡ (outcome (curveChecks (curve .deflection) (curve .radius) (curve .spiral) place) ▹ outcome (distanceCheck distance place)) ⌝ }
 {
     let c = check_curve(curve.deflection, curve.radius, curve.spiral, place);
     let d = check_distance(distance, place);
@@ -79,7 +80,7 @@ fn check_entry(curve: Curve, distance: u32, place: u16) -> Verdict
 // The first of refusals 8 to 11, in sheet order: distance 0, curve 1, distance 1, ..
 fn check_body(line: Line) -> Verdict
     requires { ⌜ line .count ≤ 64 ⌝ }
-    ensures { λ r. ⌜ outcomeOf r ≡ bodyOutcome line (line .count) ⌝ }
+    ensures { λ r. ⌜ outcomeOf r ≡ outcome (bodyChecks line (line .count)) ⌝ }
 {
     let n = line.count;
     let d0 = line.distances[0];
@@ -102,7 +103,7 @@ fn check_body(line: Line) -> Verdict
 
 // The first refusal of a line's fields: 3 to 6, then 8 to 11 in sheet order. Unused entries are ignored.
 pub fn check_line(line: Line) -> Verdict
-    ensures { λ r. ⌜ outcomeOf r ≡ lineOutcome line ⌝ }
+    ensures { λ r. ⌜ outcomeOf r ≡ outcome (lineChecks line) ⌝ }
 {
     let head = check_head(line.count, line.speed, line.crossfall, line.start);
     let Verdict::Pass = head else {

@@ -5,11 +5,12 @@ use mathlib.Core.List.{List, [], _∷_, _++_}
 use Prim.Native.Nat.{ℕ}
 use lib.ListN.{replicate}
 use Rattle.refusals.specs.Outcomes.{passed, refused}
+use Rattle.refusals.specs.Order.{outcome}
 use Rattle.line.specs.declared.Curve.{Curve}
 use Rattle.line.specs.declared.Line.{Line}
-use Rattle.line.specs.Checks.{startOutcome, headOutcome, distanceOutcome, curveOutcome, bodyOutcome, lineOutcome, blankCurve}
+use Rattle.line.specs.Checks.{startCheck, headChecks, distanceCheck, curveChecks, bodyChecks, lineChecks, blankCurve}
 use Rattle.line.specs.Entries.{entries}
-use Rattle.line_numbers.specs.Numbers.{numbersTo, lineNumbers, fewOutcome, turnOf, curveOf, lineOf, countOutcome, numbersOutcome}
+use Rattle.line_numbers.specs.Numbers.{numbersTo, lineNumbers, fewCheck, turnOf, curveOf, lineOf, countCheck, numbersChecks}
 
 -- n, V, e, start, distance 0
 abbrev head : ℕ → ℕ → List ℕ
@@ -38,21 +39,21 @@ pub record Examples : Type 0 where
   pub numbers : lineNumbers (line 2 (500000 ∷ 400000 ∷ 300000 ∷ 7 ∷ []) (curves ++ curves)) ≡ head 2 500000 ++ entry 0 ++ other 1
   pub line-of-them : lineOf (head 2 500000 ++ entry 0 ++ other 1)
       ≡ line 2 (500000 ∷ 400000 ∷ 300000 ∷ replicate 62 0) (curves ++ replicate 62 blankCurve)
-  pub accepted : numbersOutcome (head 2 500000 ++ entry 0 ++ other 1) ≡ passed
-  pub curves-64 : fewOutcome (line 64 [] []) ≡ passed
-  pub curves-65 : fewOutcome (line 65 [] []) ≡ refused 3 0
+  pub accepted : outcome (numbersChecks (head 2 500000 ++ entry 0 ++ other 1)) ≡ passed
+  pub curves-64 : outcome (fewCheck (line 64 [] [])) ≡ passed
+  pub curves-65 : outcome (fewCheck (line 65 [] [])) ≡ refused 3 0
   -- ---- other than the numbers of n curves
-  pub none-at-all : numbersOutcome [] ≡ refused 3 0
-  pub cut-short : numbersOutcome (head 2 0 ++ entry 0 ++ (1 ∷ 36000 ∷ 500000 ∷ 0 ∷ [])) ≡ refused 3 0
-  pub one-more : numbersOutcome (head 2 0 ++ entry 0 ++ other 1 ++ (0 ∷ [])) ≡ refused 3 0
-  pub curve-not-counted : numbersOutcome (head 1 500000 ++ entry 0 ++ other 1) ≡ refused 3 0
-  pub over-64 : countOutcome (head 65 500000 ++ replicate 325 1) ≡ refused 3 0
+  pub none-at-all : outcome (numbersChecks []) ≡ refused 3 0
+  pub cut-short : outcome (numbersChecks (head 2 0 ++ entry 0 ++ (1 ∷ 36000 ∷ 500000 ∷ 0 ∷ []))) ≡ refused 3 0
+  pub one-more : outcome (numbersChecks (head 2 0 ++ entry 0 ++ other 1 ++ (0 ∷ []))) ≡ refused 3 0
+  pub curve-not-counted : outcome (numbersChecks (head 1 500000 ++ entry 0 ++ other 1)) ≡ refused 3 0
+  pub over-64 : outcome (countCheck (head 65 500000 ++ replicate 325 1)) ≡ refused 3 0
   -- ---- a side other than 0 and 1, in sheet order
-  pub side-2 : numbersOutcome (head 2 500000 ++ entry 0 ++ other 2) ≡ refused 9 2
-  pub distance-before-side : numbersOutcome (head 2 0 ++ entry 2 ++ other 0) ≡ refused 8 0
+  pub side-2 : outcome (numbersChecks (head 2 500000 ++ entry 0 ++ other 2)) ≡ refused 9 2
+  pub distance-before-side : outcome (numbersChecks (head 2 0 ++ entry 2 ++ other 0)) ≡ refused 8 0
 
 pub examples : Examples
-unfolding numbersTo lineNumbers entries turnOf curveOf lineOf countOutcome numbersOutcome startOutcome headOutcome distanceOutcome curveOutcome bodyOutcome lineOutcome
+unfolding numbersTo lineNumbers entries turnOf curveOf lineOf countCheck numbersChecks startCheck headChecks distanceCheck curveChecks bodyChecks lineChecks
 examples =
     record {
       numbers = refl;

@@ -12,17 +12,18 @@ use lib.Seq.{take-suc, take-length, getD-append-add}
 use borrow.Author.Tests.{leb-true, eqb-true, le-leb, lt-leb, eq-eqb}
 use Rattle.numbers.proofs.Tests.{both-left, both-right}
 use Rattle.refusals.specs.Outcomes.{passed, need, _▹_}
+use Rattle.refusals.specs.Order.{outcome}
 use Rattle.refusals.proofs.Joining.{passed-left, passed-right, need-holds}
 use Rattle.line.specs.declared.Curve.{Curve}
 use Rattle.line.specs.declared.Line.{Line}
-use Rattle.line.specs.Checks.{distanceAt, blankCurve, curveAt, lineOutcome}
+use Rattle.line.specs.Checks.{distanceAt, blankCurve, curveAt, lineChecks}
 use Rattle.line.specs.Entries.{sideBit, entries, cleared}
 use Rattle.line.specs.Ranges.{LineInRange}
 use Rattle.line.proofs.InRange.{line-in-range}
 use Rattle.line.proofs.Entries.{entries-get, entries-same}
 use Rattle.line.proofs.Sides.{side-of-bit, bit-of-side, side-fits}
 use Rattle.line.proofs.Unused.{unused-ignored, cleared-alike}
-use Rattle.line_numbers.specs.Numbers.{numberCount, headNumbers, entryNumbers, numbersTo, lineNumbers, numberAt, distanceOf, turnOf, curveOf, lineOf, countOutcome, numbersOutcome}
+use Rattle.line_numbers.specs.Numbers.{numberCount, headNumbers, entryNumbers, numbersTo, lineNumbers, numberAt, distanceOf, turnOf, curveOf, lineOf, countCheck, numbersChecks}
 use Rattle.line_numbers.proofs.Storing.{numbers-length}
 
 -- A side of two values keeps its deflection, and another has none.
@@ -96,22 +97,22 @@ module _ (line : Line) where
       }
 
   -- A line and its numbers have the same first refusal.
-  pub outcome-again : line .count ≤ 64 → numbersOutcome (lineNumbers line) ≡ lineOutcome line
-  unfolding numbersOutcome countOutcome lineNumbers
+  pub outcome-again : line .count ≤ 64 → outcome (numbersChecks (lineNumbers line)) ≡ outcome (lineChecks line)
+  unfolding numbersChecks countCheck lineNumbers
   outcome-again few =
       let n : numberAt numbers 0 ≡ line .count = head-in (line .count) 0 (omega arith) in
       let counted : (leb (numberAt numbers 0) 64 && eqb (length numbers) (numberCount (numberAt numbers 0))) ≡ true =
       rw (n, le-leb (line .count) 64 few) (eq-eqb (length numbers) (numberCount (line .count)) (numbers-length line (line .count))) in
-      ap (λ (b : Bool). need b 3 0 ▹ lineOutcome (lineOf numbers)) counted
-      ∙ ap lineOutcome line-again
+      ap (λ (b : Bool). need b 3 0 ▹ outcome (lineChecks (lineOf numbers))) counted
+      ∙ ap (λ (l : Line). outcome (lineChecks l)) line-again
       ∙ unused-ignored (cleared line) line (cleared-alike line few)
 
 -- ---- from numbers to their line and back
 
 -- Numbers that pass the first check are those of at most 64 curves, as many as n calls for.
-module _ (numbers : List ℕ) (passes : countOutcome numbers ≡ passed) where
+module _ (numbers : List ℕ) (passes : outcome (countCheck numbers) ≡ passed) where
   test : (leb (numberAt numbers 0) 64 && eqb (length numbers) (numberCount (numberAt numbers 0))) ≡ true
-  unfolding countOutcome
+  unfolding countCheck
   test = need-holds _ 3 0 passes
 
   pub few-counted : numberAt numbers 0 ≤ 64
@@ -120,13 +121,13 @@ module _ (numbers : List ℕ) (passes : countOutcome numbers ≡ passed) where
   pub all-counted : length numbers ≡ numberCount (numberAt numbers 0)
   all-counted = eqb-true (length numbers) (numberCount (numberAt numbers 0)) (both-right (leb (numberAt numbers 0) 64) _ test)
 
-module _ (numbers : List ℕ) (accepted : numbersOutcome numbers ≡ passed) where
+module _ (numbers : List ℕ) (accepted : outcome (numbersChecks numbers) ≡ passed) where
   abbrev n : ℕ
   n = numberAt numbers 0
 
-  passes : countOutcome numbers ≡ passed
-  unfolding numbersOutcome
-  passes = passed-left (countOutcome numbers) _ accepted
+  passes : outcome (countCheck numbers) ≡ passed
+  unfolding numbersChecks
+  passes = passed-left (outcome (countCheck numbers)) _ accepted
 
   few : n ≤ 64
   few = few-counted numbers passes
@@ -136,8 +137,8 @@ module _ (numbers : List ℕ) (accepted : numbersOutcome numbers ≡ passed) whe
   counted = all-counted numbers passes
 
   in-range : LineInRange (lineOf numbers)
-  unfolding numbersOutcome
-  in-range = line-in-range (lineOf numbers) (passed-right (countOutcome numbers) _ accepted)
+  unfolding numbersChecks
+  in-range = line-in-range (lineOf numbers) (passed-right (outcome (countCheck numbers)) _ accepted)
 
   distance-of : (i : ℕ) → i ≤ n → distanceAt (lineOf numbers) i ≡ distanceOf numbers i
   unfolding lineOf

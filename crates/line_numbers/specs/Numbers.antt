@@ -5,10 +5,10 @@ use mathlib.Core.List.{List, [], _∷_, _++_}
 use Prim.Native.Nat.{ℕ, zero, suc, _+_, _*_}
 use lib.Dec.{leb, eqb}
 use lib.ListN.{length, getD}
-use Rattle.refusals.specs.Outcomes.{Outcome, need, _▹_}
+use Rattle.refusals.specs.Order.{Checks, check, _⨾_}
 use Rattle.line.specs.declared.Curve.{Curve}
 use Rattle.line.specs.declared.Line.{Line}
-use Rattle.line.specs.Checks.{distanceAt, blankCurve, curveAt, lineOutcome}
+use Rattle.line.specs.Checks.{distanceAt, blankCurve, curveAt, lineChecks}
 use Rattle.line.specs.Entries.{sideBit, entries}
 
 -- How many numbers a line of n curves has.
@@ -36,8 +36,8 @@ unfoldable pub lineNumbers : Line → List ℕ
 lineNumbers line = numbersTo line (line .count)
 
 -- 3: "n over 64", where a line is to be written as numbers
-abbrev pub fewOutcome : Line → Outcome
-fewOutcome line = need (leb (line .count) 64) 3 0
+abbrev pub fewCheck : Line → Checks
+fewCheck line = check (leb (line .count) 64) 3 0
 
 -- ---- the line of numbers
 
@@ -76,9 +76,9 @@ lineOf numbers =
     }
 
 -- 3: "n over 64", or other than the numbers of n curves
-unfoldable pub countOutcome : List ℕ → Outcome
-countOutcome numbers = need (leb (numberAt numbers 0) 64 && eqb (length numbers) (numberCount (numberAt numbers 0))) 3 0
+unfoldable pub countCheck : List ℕ → Checks
+countCheck numbers = check (leb (numberAt numbers 0) 64 && eqb (length numbers) (numberCount (numberAt numbers 0))) 3 0
 
--- The first refusal of numbers: 3, then the writer's "3 to 6, 8 to 11 likewise" of their line.
-unfoldable pub numbersOutcome : List ℕ → Outcome
-numbersOutcome numbers = countOutcome numbers ▹ lineOutcome (lineOf numbers)
+-- The checks of numbers: 3, then the writer's "3 to 6, 8 to 11 likewise" of their line.
+unfoldable pub numbersChecks : List ℕ → Checks
+numbersChecks numbers = countCheck numbers ⨾ lineChecks (lineOf numbers)

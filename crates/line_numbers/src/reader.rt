@@ -3,8 +3,9 @@ ghost use mathlib.Core.Path.{_≡_};
 ghost use Prim.Native.Nat.{_+_, _*_, _<_, _≤_};
 ghost use lib.ListN.{length};
 ghost use Rattle.refusals.specs.Outcomes.{outcomeOf};
+ghost use Rattle.refusals.specs.Order.{outcome};
 ghost use Rattle.line.specs.Entries.{lineAfter};
-ghost use Rattle.line_numbers.specs.Numbers.{turnOf, curveOf, lineOf, countOutcome};
+ghost use Rattle.line_numbers.specs.Numbers.{turnOf, curveOf, lineOf, countCheck};
 use line::Curve;
 use line::Line;
 use line::blank_line;
@@ -14,7 +15,7 @@ use refusals::must;
 
 // Refusal 3: over 64 curves, or other than the 5 + 5 × n numbers of n curves, so that a line cut short is never taken for a whole one.
 pub fn check_count(numbers: &[u32]) -> Verdict
-    ensures { λ r. ⌜ outcomeOf r ≡ countOutcome (now (numbers .entry)) ⌝ }
+    ensures { λ r. ⌜ outcomeOf r ≡ outcome (countCheck (now (numbers .entry))) ⌝ }
 {
     if numbers.len() < 1 {
         return Verdict::Refused(Refusal::CurveCount);
@@ -51,7 +52,7 @@ fn curve_of(numbers: &[u32], entry: usize) -> Curve
 // The line of numbers, its unused entries zero; after refusal 3 a line whose fields are all zero. A curve whose side is neither 0 nor 1 has
 // no deflection, which 9 refuses. Any numbers are taken; their ranges are checked by whoever takes the line.
 pub fn read(numbers: &[u32]) -> Line
-    ensures { λ r. ⌜ r ≡ lineAfter (countOutcome (now (numbers .entry))) (lineOf (now (numbers .entry))) ⌝ }
+    ensures { λ r. ⌜ r ≡ lineAfter (outcome (countCheck (now (numbers .entry)))) (lineOf (now (numbers .entry))) ⌝ }
 {
     let mut line = blank_line();
     let verdict = check_count(numbers);

@@ -3,8 +3,8 @@ ghost use mathlib.Core.Path.{_≡_};
 ghost use mathlib.Core.List.{[], _∷_, _++_};
 ghost use Prim.Native.Nat.{_+_, _≤_};
 ghost use lib.ListN.{length, take, drop};
-ghost use Rattle.refusals.specs.Filling.{fillReplyOf, replyFor, bufferFor};
-ghost use Rattle.line_numbers.specs.Numbers.{numberCount, lineNumbers, fewOutcome};
+ghost use Rattle.refusals.specs.Filling.{fillReplyOf, fill};
+ghost use Rattle.line_numbers.specs.Numbers.{numberCount, lineNumbers, fewCheck};
 use line::Line;
 use line::side_bit;
 use refusals::FillAnswer;
@@ -57,8 +57,8 @@ fn store_line(line: Line, numbers: &mut [u32])
 // The numbers of a line at the front of `numbers`. Answers how many there are, 5 + 5 × n, or refusal 3, over 64 curves, then 16; a refusal
 // leaves `numbers` as they were. Any line and any numbers are taken; unused entries are ignored.
 pub fn write(line: Line, numbers: &mut [u32]) -> FillAnswer
-    ensures answer { λ a. ⌜ fillReplyOf a ≡ replyFor (fewOutcome line) (lineNumbers line) (length (now (numbers .entry))) ⌝ }
-    ensures memory { λ _. ⌜ now (numbers .exit) ≡ bufferFor (fewOutcome line) (lineNumbers line) (now (numbers .entry)) ⌝ }
+    ensures answer { λ a. ⌜ fillReplyOf a ≡ fill (fewCheck line) (lineNumbers line) (now (numbers .entry)) .reply ⌝ }
+    ensures memory { λ _. ⌜ now (numbers .exit) ≡ fill (fewCheck line) (lineNumbers line) (now (numbers .entry)) .buffer ⌝ }
 {
     let n = line.count;
     if 64 < n {

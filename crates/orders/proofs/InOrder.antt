@@ -8,9 +8,10 @@ use lib.ListN.{getD}
 use Rattle.numbers.specs.Whole.{Between}
 use Rattle.numbers.proofs.Ranges.{widen, sum-between}
 use Rattle.refusals.specs.Outcomes.{passed}
+use Rattle.refusals.specs.Order.{outcome}
 use Rattle.line.specs.declared.Line.{Line}
 use Rattle.stationing.specs.Stations.{pointsAt, formerST, endOf, curveStations, stationsOf, stationRow}
-use Rattle.stationing.specs.Answer.{alignmentOutcome}
+use Rattle.stationing.specs.Answer.{alignmentChecks}
 use Rattle.orders.specs.Order.{Ascent, done, up}
 use Rattle.stationing.proofs.RowSteps.{numbersTo}
 use Rattle.stationing.proofs.Accepted.{Accepted, accepted}
@@ -84,7 +85,7 @@ pub record InOrder (line : Line) : Type 0 where
   pub never-back : Ascent (1000 * line .start) (stationRow line) (natAbs (endOf line))
   pub most : (k : ℕ) → getD (stationRow line) k 0 ≤ 2268000000000
 
-pub in-order : (line : Line) → alignmentOutcome line ≡ passed → InOrder line
+pub in-order : (line : Line) → outcome (alignmentChecks line) ≡ passed → InOrder line
 unfolding stationRow stationsOf
 in-order line e = record { exact = exact; never-back = ascent; most = λ k. omega (arith, last-most ascent .1 k, end-most) }
   where

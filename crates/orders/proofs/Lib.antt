@@ -1,7 +1,6 @@
 -- Theorems on the row of stations and on the calculator's refusals.
 pub mod Numbers
 pub mod Unused
-pub mod FirstRefusal
 pub mod InOrder
 pub mod Replies
 pub mod RowNumbers

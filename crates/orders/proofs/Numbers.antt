@@ -3,19 +3,20 @@ use Prim.Native.Nat.{ℕ, suc, _≤_}
 use native.Mathlib.Omega.{arith}
 use lib.IntN.{pos}
 use lib.Signed.{leZ}
-use Rattle.refusals.specs.Outcomes.{need, _▹_, firstOf}
+use Rattle.refusals.specs.Outcomes.{need, _▹_}
+use Rattle.refusals.specs.Order.{inTurn, outcome}
 use Rattle.refusals.proofs.Numbers.{Refuses, one-number, joined-numbers, numbers-in-turn, wider}
 use Rattle.line.specs.declared.Line.{Line}
-use Rattle.line.specs.Checks.{curveAt, lineOutcome}
+use Rattle.line.specs.Checks.{curveAt, lineChecks}
 use Rattle.line.proofs.Numbers.{line-numbers}
 use Rattle.elements.specs.WorkingRule.{arcOf}
-use Rattle.elements.specs.Answer.{arcOutcome}
+use Rattle.elements.specs.Answer.{arcCheck}
 use Rattle.stationing.specs.RoadTables.{radiusServes, spiralServes}
 use Rattle.stationing.specs.Stations.{straightAt}
-use Rattle.stationing.specs.Answer.{designOutcome, curveCheck, straightCheck, alignmentOutcome}
+use Rattle.stationing.specs.Answer.{designChecks, designChecksAt, straightCheck, alignmentChecks}
 
-design-numbers : (v e A R L place far : ℕ) → place ≤ far → Refuses 3 15 far (designOutcome v e A R L place)
-unfolding designOutcome arcOutcome
+design-numbers : (v e A R L place far : ℕ) → place ≤ far → Refuses 3 15 far (outcome (designChecks v e A R L place))
+unfolding designChecks arcCheck
 design-numbers v e A R L place far h =
     let radius = radiusServes v e R in
     let spiral = spiralServes v R L in
@@ -23,14 +24,14 @@ design-numbers v e A R L place far h =
     joined-numbers (need radius 12 place) (need spiral 13 place ▹ need arc 14 place) (one-number radius 12 place (omega arith) (omega arith) h)
     (joined-numbers (need spiral 13 place) (need arc 14 place) (one-number spiral 13 place (omega arith) (omega arith) h) (one-number arc 14 place (omega arith) (omega arith) h))
 
-pub alignment-numbers : (line : Line) → Refuses 3 15 (line .count) (alignmentOutcome line)
-unfolding alignmentOutcome curveCheck straightCheck
+pub alignment-numbers : (line : Line) → Refuses 3 15 (line .count) (outcome (alignmentChecks line))
+unfolding alignmentChecks designChecksAt straightCheck
 alignment-numbers line =
     let n = line .count in
-    let curves = firstOf (curveCheck line) n in
-    let straights = firstOf (straightCheck line) (suc n) in
-    joined-numbers (lineOutcome line) (curves ▹ straights) (wider (lineOutcome line) (line-numbers line) (omega arith) (omega arith) (omega arith))
+    let curves = outcome (inTurn (designChecksAt line) n) in
+    let straights = outcome (inTurn (straightCheck line) (suc n)) in
+    joined-numbers (outcome (lineChecks line)) (curves ▹ straights) (wider (outcome (lineChecks line)) (line-numbers line) (omega arith) (omega arith) (omega arith))
     (joined-numbers curves straights
-    (numbers-in-turn (curveCheck line) n
+    (numbers-in-turn (designChecksAt line) n
     (λ i h. design-numbers (line .speed) (line .crossfall) (curveAt line i .deflection) (curveAt line i .radius) (curveAt line i .spiral) (suc i) n (omega arith)))
     (numbers-in-turn (straightCheck line) (suc n) (λ i h. one-number (leZ (pos 1000) (straightAt line i)) 15 i (omega arith) (omega arith) (omega arith))))

@@ -12,9 +12,9 @@ use lib.Seq.{getD-append-add}
 use Rattle.refusals.specs.Filling.{filled}
 use Rattle.line.specs.declared.Line.{Line}
 use Rattle.stationing.specs.Stations.{pointsAt, endOf, curveStations, stationsOf, stationRow}
-use Rattle.stationing.specs.Answer.{stationCount, stationsAnswer, stationsRow}
+use Rattle.stationing.specs.Answer.{stationCount, stationsIn}
 use Rattle.stationing.proofs.RowSteps.{numbers-length}
-use Rattle.stationing.proofs.WaysOut.{row-count}
+use Rattle.stationing.proofs.RowCount.{row-count}
 use Rattle.orders.proofs.InOrder.{fourAt, in-order}
 use Rattle.orders.proofs.Replies.{counted}
 
@@ -50,31 +50,32 @@ module _ (line : Line) where
           (behind n k (fourAt line n))
 
   -- The numbers of the row after a call that counts.
-  module _ (row : List ℕ) {count : ℕ} (e : stationsAnswer line (length row) ≡ filled count) where
-    station-at : (k : ℕ) → k < stationCount line → pos (getD (stationsRow line row) k 0) ≡ getD (stationsOf line) k (pos 0)
+  module _ (row : List ℕ) {count : ℕ} (e : stationsIn line row .reply ≡ filled count) where
+    station-at : (k : ℕ) → k < stationCount line → pos (getD (stationsIn line row .buffer) k 0) ≡ getD (stationsOf line) k (pos 0)
+    unfolding stationsIn
     station-at k h =
-        ap (λ (r : List ℕ). pos (getD r k 0)) (counted line row e .stations)
-        ∙ ap pos (List·getD-append (stationRow line) (drop (stationCount line) row) 0 k (omega (arith, row-count line)))
+        ap (λ (r : List ℕ). pos (getD r k 0)) (counted line row e .holds)
+        ∙ ap pos (List·getD-append (stationRow line) (drop (length (stationRow line)) row) 0 k (omega (arith, row-count line)))
         ∙ sym (List·getD-map pos (stationRow line) k 0)
         ∙ ap (λ (s : List ℤ). getD s k (pos 0)) (in-order line (counted line row e .checked) .exact)
 
-    point-at : (i k : ℕ) → i < line .count → k < 4 → pos (getD (stationsRow line row) (4 * i + k) 0) ≡ getD (fourAt line i) k (pos 0)
+    point-at : (i k : ℕ) → i < line .count → k < 4 → pos (getD (stationsIn line row .buffer) (4 * i + k) 0) ≡ getD (fourAt line i) k (pos 0)
     unfolding stationsOf
     point-at i k h l =
         station-at (4 * i + k) (omega arith)
         ∙ List·getD-append (curveStations line (line .count)) (endOf line ∷ []) (pos 0) (4 * i + k) (omega (arith, curves-length (line .count)))
         ∙ within-curves (line .count) i k h l
 
-    pub row-numbers : RowNumbers line (stationsRow line row)
+    pub row-numbers : RowNumbers line (stationsIn line row .buffer)
     unfolding stationsOf
     row-numbers =
         record {
-          TS = λ i h. ap (λ (m : ℕ). pos (getD (stationsRow line row) m 0)) (sym (add-zero (4 * i))) ∙ point-at i 0 h (omega arith);
+          TS = λ i h. ap (λ (m : ℕ). pos (getD (stationsIn line row .buffer) m 0)) (sym (add-zero (4 * i))) ∙ point-at i 0 h (omega arith);
           SC = λ i h. point-at i 1 h (omega arith);
           CS = λ i h. point-at i 2 h (omega arith);
           ST = λ i h. point-at i 3 h (omega arith);
           end =
-              ap (λ (m : ℕ). pos (getD (stationsRow line row) m 0)) (sym (add-zero (4 * line .count)))
+              ap (λ (m : ℕ). pos (getD (stationsIn line row .buffer) m 0)) (sym (add-zero (4 * line .count)))
               ∙ station-at (4 * line .count + 0) (omega arith)
               ∙ behind (line .count) 0 (endOf line ∷ []);
         }

@@ -2,20 +2,20 @@
 -- nothing.
 use mathlib.Core.Path.{_≡_, refl, sym, _∙_, ap}
 use mathlib.Core.List.{List, [], _∷_, _++_, map}
-use Prim.Native.Nat.{ℕ, zero, suc, _+_, _*_, _<_, _≤_}
+use Prim.Native.Nat.{ℕ, zero, suc, _<_, _≤_}
 use native.Mathlib.Decide.{decLt}
 use native.Mathlib.Omega.{arith}
-use lib.Dec.{leb}
 use lib.IntN.{natAbs, _+ℤ_}
-use lib.ListN.{length}
-use Rattle.refusals.specs.Outcomes.{need, _▹_, firstOf}
+use Rattle.refusals.specs.Order.{inTurn, outcome}
+use Rattle.refusals.proofs.Joining.{join}
 use Rattle.refusals.proofs.InTurn.{alike-in-turn}
+use Rattle.refusals.proofs.FillWays.{same-fill}
 use Rattle.line.specs.declared.Line.{Line}
 use Rattle.line.specs.Ranges.{AlikeWhereUsed}
 use Rattle.line.proofs.Unused.{unused-ignored}
 use Rattle.stationing.proofs.StraightSteps.{after-inside, after-end}
 use Rattle.stationing.specs.Stations.{spiralAt, arcAt, tangentAt, tangentBefore, tangentAfter, straightAt, pointsAt, formerST, endOf, curveStations, stationsOf, stationRow}
-use Rattle.stationing.specs.Answer.{curveCheck, straightCheck, alignmentOutcome, roomCheck, stationsOutcome, stationsAnswer, stationsRow}
+use Rattle.stationing.specs.Answer.{designChecksAt, straightCheck, alignmentChecks, stationsIn}
 
 module _ (l m : Line) (alike : AlikeWhereUsed l m) where
   module _ (i : ℕ) (h : i < l .count) where
@@ -31,8 +31,8 @@ module _ (l m : Line) (alike : AlikeWhereUsed l m) where
     unfolding tangentAt
     same-tangent = rw (alike .deflection i h, alike .radius i h, alike .spiral i h)
 
-    same-curve-check : curveCheck l i ≡ curveCheck m i
-    unfolding curveCheck
+    same-curve-check : outcome (designChecksAt l i) ≡ outcome (designChecksAt m i)
+    unfolding designChecksAt
     same-curve-check =
         rw (alike .speed, alike .crossfall, alike .deflection i h, alike .radius i h, alike .spiral i h)
 
@@ -54,25 +54,24 @@ module _ (l m : Line) (alike : AlikeWhereUsed l m) where
   unfolding straightAt
   same-straight i h = rw (same-before i h, same-after i, alike .distance i h)
 
-  same-straight-check : (i : ℕ) → i ≤ l .count → straightCheck l i ≡ straightCheck m i
+  same-straight-check : (i : ℕ) → i ≤ l .count → outcome (straightCheck l i) ≡ outcome (straightCheck m i)
   unfolding straightCheck
   same-straight-check i h = rw (same-straight i h)
 
   -- ---- the checks
 
-  same-curve-checks : firstOf (curveCheck l) (l .count) ≡ firstOf (curveCheck m) (m .count)
+  same-curve-checks : outcome (inTurn (designChecksAt l) (l .count)) ≡ outcome (inTurn (designChecksAt m) (m .count))
   same-curve-checks =
-      alike-in-turn (curveCheck l) (curveCheck m) (l .count) same-curve-check ∙ ap (firstOf (curveCheck m)) (alike .count)
+      alike-in-turn (designChecksAt l) (designChecksAt m) (l .count) same-curve-check ∙ ap (λ (n : ℕ). outcome (inTurn (designChecksAt m) n)) (alike .count)
 
-  same-straight-checks : firstOf (straightCheck l) (suc (l .count)) ≡ firstOf (straightCheck m) (suc (m .count))
+  same-straight-checks : outcome (inTurn (straightCheck l) (suc (l .count))) ≡ outcome (inTurn (straightCheck m) (suc (m .count)))
   same-straight-checks =
       alike-in-turn (straightCheck l) (straightCheck m) (suc (l .count)) (λ i h. same-straight-check i (omega arith))
-      ∙ ap (λ (n : ℕ). firstOf (straightCheck m) (suc n)) (alike .count)
+      ∙ ap (λ (n : ℕ). outcome (inTurn (straightCheck m) (suc n))) (alike .count)
 
-  same-checks : (room : ℕ) → stationsOutcome l room ≡ stationsOutcome m room
-  unfolding stationsOutcome alignmentOutcome roomCheck
-  same-checks room =
-      λ j. (unused-ignored l m alike j ▹ same-curve-checks j ▹ same-straight-checks j) ▹ need (leb (4 * alike .count j + 1) room) 16 0
+  same-checks : outcome (alignmentChecks l) ≡ outcome (alignmentChecks m)
+  unfolding alignmentChecks
+  same-checks = join (unused-ignored l m alike) (join same-curve-checks same-straight-checks)
 
   -- ---- the stations
 
@@ -96,10 +95,7 @@ module _ (l m : Line) (alike : AlikeWhereUsed l m) where
       let straight : straightAt l n ≡ straightAt m (m .count) = same-straight n (omega arith) ∙ ap (straightAt m) (alike .count) in
       λ j. map natAbs (curves j ++ ((former j +ℤ straight j) ∷ []))
 
-  pub same-answer : (room : ℕ) → stationsAnswer l room ≡ stationsAnswer m room
-  unfolding stationsAnswer
-  same-answer room = rw (same-checks room, alike .count)
-
-  pub same-row : (row : List ℕ) → stationsRow l row ≡ stationsRow m row
-  unfolding stationsRow
-  same-row row = rw (same-checks (length row), same-stations)
+  -- The same answer and the same row, whatever row is lent.
+  pub same-call : (row : List ℕ) → stationsIn l row ≡ stationsIn m row
+  unfolding stationsIn
+  same-call row = same-fill (alignmentChecks l) (alignmentChecks m) (stationRow l) (stationRow m) row same-checks same-stations

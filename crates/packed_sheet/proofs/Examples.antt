@@ -6,15 +6,16 @@ use Prim.Native.Nat.{ℕ, _+_, _*_}
 use native.Mathlib.Omega.{arith}
 use lib.ListN.{length, replicate}
 use Rattle.refusals.specs.Outcomes.{passed, refused}
-use Rattle.refusals.specs.Filling.{filled, unfilled}
+use Rattle.refusals.specs.Filling.{filled, unfilled, withRoom, fill}
+use Rattle.refusals.specs.Order.{outcome}
 use Rattle.line.specs.declared.Curve.{Curve}
 use Rattle.line.specs.declared.Line.{Line}
-use Rattle.line.specs.Checks.{startOutcome, headOutcome, distanceOutcome, blankCurve, curveOutcome, bodyOutcome, lineOutcome}
+use Rattle.line.specs.Checks.{startCheck, headChecks, distanceCheck, blankCurve, curveChecks, bodyChecks, lineChecks}
 use Rattle.line.specs.Entries.{entries, blankLine}
 use Rattle.bits.specs.Bits.{valueOf, bytesOf, bitsAt, valuesAt, packed}
 use Rattle.packed_sheet.specs.Layout.{firstEdition, bitCount, byteCount}
-use Rattle.packed_sheet.specs.Reading.{headOf, distanceOf, curveOf, lineOf, sizeOutcome, frameOutcome, readOutcome, readLine}
-use Rattle.packed_sheet.specs.Writing.{entriesAfter, numberTo, sheetNumber, sheetOf, writeOutcome, writeAnswer, writeBytes}
+use Rattle.packed_sheet.specs.Reading.{headOf, distanceOf, curveOf, lineOf, sizeChecks, frameChecks, readChecks, readLine}
+use Rattle.packed_sheet.specs.Writing.{entriesAfter, numberTo, sheetNumber, sheetOf, sheetIn}
 
 -- Case 9: "V 70, e 8, start 0, no curve, distance 500,000". The fill is the rest of the last byte.
 abbrev nineBytes : List ℕ
@@ -65,44 +66,44 @@ pub bits-of-sheet : (n : ℕ) → bitCount firstEdition n ≡ 75 + 87 * n
 bits-of-sheet n = omega arith
 
 pub record Examples : Type 0 where
-  pub case-9-read : readOutcome firstEdition sheet9 ≡ passed
+  pub case-9-read : outcome (readChecks firstEdition sheet9) ≡ passed
   pub case-9-line : readLine firstEdition sheet9 ≡ line9 (500000 ∷ replicate 64 0) (replicate 64 blankCurve)
   pub case-9-written : sheetOf firstEdition (line9 (500000 ∷ replicate 64 0) (replicate 64 blankCurve)) ≡ sheet9
-  pub case-10-fill : readOutcome firstEdition (nineBytes ++ (0x01 ∷ [])) ≡ refused 7 0
-  pub case-10-cut : readOutcome firstEdition nineBytes ≡ refused 1 0
+  pub case-10-fill : outcome (readChecks firstEdition (nineBytes ++ (0x01 ∷ []))) ≡ refused 7 0
+  pub case-10-cut : outcome (readChecks firstEdition nineBytes) ≡ refused 1 0
   -- sizes
   pub bytes-0 : byteCount firstEdition 0 ≡ 10
   pub bytes-1 : byteCount firstEdition 1 ≡ 21
   pub bytes-64 : byteCount firstEdition 64 ≡ 706
   -- a curve
-  pub curved-read : readOutcome firstEdition curved ≡ passed
+  pub curved-read : outcome (readChecks firstEdition curved) ≡ passed
   pub curved-line : readLine firstEdition curved ≡ curvedLine (500000 ∷ 400000 ∷ replicate 63 0) (left ∷ replicate 63 blankCurve)
   pub curved-written : sheetOf firstEdition (curvedLine (500000 ∷ 400000 ∷ replicate 63 9) (replicate 64 left)) ≡ curved
   -- the 65th distance
   pub full-length : length (sheetOf firstEdition fullLine) ≡ 706
   pub full-distance : distanceOf firstEdition (sheetOf firstEdition fullLine) 64 ≡ 12345
   -- the reader's order
-  pub no-bytes : readOutcome firstEdition [] ≡ refused 1 0
-  pub six-bytes-first : readOutcome firstEdition (0 ∷ 0 ∷ 0 ∷ 0 ∷ 0 ∷ 0 ∷ []) ≡ refused 1 0
-  pub edition-before-count : readOutcome firstEdition edition0 ≡ refused 2 0
-  pub count-before-speed : readOutcome firstEdition curves127 ≡ refused 3 0
-  pub speed-before-crossfall : readOutcome firstEdition speed45 ≡ refused 4 0
-  pub crossfall-before-start : readOutcome firstEdition crossfall13 ≡ refused 5 0
-  pub start-before-length : readOutcome firstEdition lateStart ≡ refused 6 0
-  pub length-last : readOutcome firstEdition (0x10 ∷ 0x31 ∷ 0xA0 ∷ 0x00 ∷ 0x00 ∷ 0x00 ∷ 0x00 ∷ []) ≡ refused 1 0
-  pub trailing-byte : readOutcome firstEdition (sheet9 ++ (0 ∷ [])) ≡ refused 7 0
-  pub trailing-before-distance : readOutcome firstEdition (0x10 ∷ 0x11 ∷ 0xA0 ∷ 0x00 ∷ 0x00 ∷ 0x00 ∷ 0x00 ∷ 0x00 ∷ 0x00 ∷ 0x01 ∷ []) ≡ refused 7 0
-  pub no-distance : readOutcome firstEdition (0x10 ∷ 0x11 ∷ 0xA0 ∷ 0x00 ∷ 0x00 ∷ 0x00 ∷ 0x00 ∷ 0x00 ∷ 0x00 ∷ 0x00 ∷ []) ≡ refused 8 0
+  pub no-bytes : outcome (readChecks firstEdition []) ≡ refused 1 0
+  pub six-bytes-first : outcome (readChecks firstEdition (0 ∷ 0 ∷ 0 ∷ 0 ∷ 0 ∷ 0 ∷ [])) ≡ refused 1 0
+  pub edition-before-count : outcome (readChecks firstEdition edition0) ≡ refused 2 0
+  pub count-before-speed : outcome (readChecks firstEdition curves127) ≡ refused 3 0
+  pub speed-before-crossfall : outcome (readChecks firstEdition speed45) ≡ refused 4 0
+  pub crossfall-before-start : outcome (readChecks firstEdition crossfall13) ≡ refused 5 0
+  pub start-before-length : outcome (readChecks firstEdition lateStart) ≡ refused 6 0
+  pub length-last : outcome (readChecks firstEdition (0x10 ∷ 0x31 ∷ 0xA0 ∷ 0x00 ∷ 0x00 ∷ 0x00 ∷ 0x00 ∷ [])) ≡ refused 1 0
+  pub trailing-byte : outcome (readChecks firstEdition (sheet9 ++ (0 ∷ []))) ≡ refused 7 0
+  pub trailing-before-distance : outcome (readChecks firstEdition (0x10 ∷ 0x11 ∷ 0xA0 ∷ 0x00 ∷ 0x00 ∷ 0x00 ∷ 0x00 ∷ 0x00 ∷ 0x00 ∷ 0x01 ∷ [])) ≡ refused 7 0
+  pub no-distance : outcome (readChecks firstEdition (0x10 ∷ 0x11 ∷ 0xA0 ∷ 0x00 ∷ 0x00 ∷ 0x00 ∷ 0x00 ∷ 0x00 ∷ 0x00 ∷ 0x00 ∷ [])) ≡ refused 8 0
   pub refused-line : readLine firstEdition nineBytes ≡ blankLine
   -- the writer
-  pub too-small : writeAnswer firstEdition (line9 (500000 ∷ []) []) 9 ≡ unfilled 16 0
-  pub as-lent : writeBytes firstEdition (line9 (500000 ∷ []) []) (replicate 9 7) ≡ replicate 9 7
-  pub exact : writeAnswer firstEdition (line9 (500000 ∷ []) []) 10 ≡ filled 10
-  pub remainder : writeBytes firstEdition (line9 (500000 ∷ replicate 64 9) (replicate 64 left)) (replicate 12 7) ≡ sheet9 ++ (7 ∷ 7 ∷ [])
-  pub distance-before-room : writeAnswer firstEdition (line9 (0 ∷ []) []) 0 ≡ unfilled 8 0
+  pub too-small : sheetIn firstEdition (line9 (500000 ∷ []) []) (replicate 9 7) .reply ≡ unfilled 16 0
+  pub as-lent : sheetIn firstEdition (line9 (500000 ∷ []) []) (replicate 9 7) .buffer ≡ replicate 9 7
+  pub exact : sheetIn firstEdition (line9 (500000 ∷ []) []) (replicate 10 7) .reply ≡ filled 10
+  pub remainder : sheetIn firstEdition (line9 (500000 ∷ replicate 64 9) (replicate 64 left)) (replicate 12 7) .buffer ≡ sheet9 ++ (7 ∷ 7 ∷ [])
+  pub distance-before-room : sheetIn firstEdition (line9 (0 ∷ []) []) [] .reply ≡ unfilled 8 0
 
 pub examples : Examples
-unfolding startOutcome headOutcome distanceOutcome curveOutcome bodyOutcome lineOutcome entries valueOf bytesOf bitsAt valuesAt packed headOf distanceOf curveOf lineOf sizeOutcome frameOutcome readOutcome readLine entriesAfter numberTo sheetNumber sheetOf writeOutcome writeAnswer writeBytes
+unfolding startCheck headChecks distanceCheck curveChecks bodyChecks lineChecks entries valueOf bytesOf bitsAt valuesAt packed headOf distanceOf curveOf lineOf sizeChecks frameChecks readChecks readLine entriesAfter numberTo sheetNumber sheetOf withRoom fill sheetIn
 examples =
     record {
       case-9-read = refl;

@@ -9,64 +9,65 @@ use lib.ListN.{length}
 use borrow.Author.Tests.{le-leb, lt-leb, leb-true, eqb-true}
 use Rattle.numbers.proofs.Tests.{both-left, both-right}
 use Rattle.refusals.specs.Outcomes.{Outcome, passed, refused, need, _▹_}
+use Rattle.refusals.specs.Order.{outcome}
 use Rattle.refusals.proofs.Joining.{passed-left, passed-right, need-holds, join}
-use Rattle.line.specs.Checks.{headOutcome}
+use Rattle.line.specs.Checks.{headChecks}
 use Rattle.line.proofs.InRange.{few-curves}
 use Rattle.packed_sheet.specs.declared.Head.{Head}
 use Rattle.bits.specs.Bits.{bitsAt, valuesAt}
 use Rattle.packed_sheet.specs.Layout.{Edition, bitCount, byteCount, fillWidth}
 use Rattle.bits.proofs.Fields.{bits-lt}
-use Rattle.packed_sheet.specs.Reading.{headOf, countOf, sizeOutcome, frameOutcome}
+use Rattle.packed_sheet.specs.Reading.{headOf, countOf, sizeChecks, frameChecks}
 
 module _ (E : Edition) (s : List ℕ) where
   -- ---- 1 (full length) and 7
 
-  pub too-short : (n : ℕ) → length s < byteCount E n → refused 1 0 ≡ sizeOutcome E s n
-  unfolding sizeOutcome
+  pub too-short : (n : ℕ) → length s < byteCount E n → refused 1 0 ≡ outcome (sizeChecks E s n)
+  unfolding sizeChecks
   too-short n h = rw (lt-leb (byteCount E n) (length s) h)
 
-  pub too-long : (n : ℕ) → byteCount E n < length s → refused 7 0 ≡ sizeOutcome E s n
-  unfolding sizeOutcome
+  pub too-long : (n : ℕ) → byteCount E n < length s → refused 7 0 ≡ outcome (sizeChecks E s n)
+  unfolding sizeChecks
   too-long n h = rw (le-leb (byteCount E n) (length s) (omega arith), lt-leb (length s) (byteCount E n) h)
 
   pub whole : (n : ℕ) {at width fill : ℕ} {o : Outcome} → length s ≡ byteCount E n → at ≡ bitCount E n → width ≡ fillWidth E n
-      → fill ≡ bitsAt s at width → o ≡ need (eqb fill 0) 7 0 → o ≡ sizeOutcome E s n
-  unfolding sizeOutcome
+      → fill ≡ bitsAt s at width → o ≡ need (eqb fill 0) 7 0 → o ≡ outcome (sizeChecks E s n)
+  unfolding sizeChecks
   whole n h a w f e =
       rw (le-leb (byteCount E n) (length s) (omega (arith, h)), le-leb (length s) (byteCount E n) (omega (arith, h)))
       (e ∙ ap (λ (x : ℕ). need (eqb x 0) 7 0) (f ∙ λ j. bitsAt s (a j) (w j)))
 
   -- ---- 1 to 7
 
-  pub no-head : length s < 7 → refused 1 0 ≡ frameOutcome E s
-  unfolding frameOutcome
+  pub no-head : length s < 7 → refused 1 0 ≡ outcome (frameChecks E s)
+  unfolding frameChecks
   no-head h = rw (lt-leb 7 (length s) h)
 
   pub framed-by : {head : Head} {edition fields size : Outcome} → 7 ≤ length s → head ≡ headOf E s
       → edition ≡ need (eqb (head .edition) (E .number)) 2 0
-      → fields ≡ headOutcome (head .count) (head .speed) (head .crossfall) (head .start)
-      → size ≡ sizeOutcome E s (head .count)
-      → (edition ▹ fields ▹ size) ≡ frameOutcome E s
-  unfolding frameOutcome
+      → fields ≡ outcome (headChecks (head .count) (head .speed) (head .crossfall) (head .start))
+      → size ≡ outcome (sizeChecks E s (head .count))
+      → (edition ▹ fields ▹ size) ≡ outcome (frameChecks E s)
+  unfolding frameChecks
   framed-by h v e f z =
       rw (le-leb 7 (length s) h)
       (join e (join f z)
-      ∙ λ j. need (eqb (v j .edition) (E .number)) 2 0 ▹ headOutcome (v j .count) (v j .speed) (v j .crossfall) (v j .start) ▹ sizeOutcome E s (v j .count))
+      ∙ λ j. need (eqb (v j .edition) (E .number)) 2 0 ▹ outcome (headChecks (v j .count) (v j .speed) (v j .crossfall) (v j .start)) ▹ outcome (sizeChecks E s (v j .count)))
 
   -- A sheet that passes 1 to 7.
   pub record Framed : Type 0 where
     pub edition : headOf E s .edition ≡ E .number
-    pub head : headOutcome (countOf E s) (headOf E s .speed) (headOf E s .crossfall) (headOf E s .start) ≡ passed
+    pub head : outcome (headChecks (countOf E s) (headOf E s .speed) (headOf E s .crossfall) (headOf E s .start)) ≡ passed
     pub few : countOf E s ≤ 64
     pub size : length s ≡ byteCount E (countOf E s)
     pub fill : bitsAt s (bitCount E (countOf E s)) (fillWidth E (countOf E s)) ≡ 0
 
-  pub framed : frameOutcome E s ≡ passed → Framed
-  unfolding frameOutcome sizeOutcome
+  pub framed : outcome (frameChecks E s) ≡ passed → Framed
+  unfolding frameChecks sizeChecks
   framed h =
       let n = countOf E s in
       let edition = need (eqb (headOf E s .edition) (E .number)) 2 0 in
-      let fields = headOutcome n (headOf E s .speed) (headOf E s .crossfall) (headOf E s .start) in
+      let fields = outcome (headChecks n (headOf E s .speed) (headOf E s .crossfall) (headOf E s .start)) in
       let long = need (leb (byteCount E n) (length s)) 1 0 in
       let h₁ = passed-right (need (leb 7 (length s)) 1 0) _ h in
       let h₂ = passed-right edition _ h₁ in

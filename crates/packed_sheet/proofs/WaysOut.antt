@@ -7,13 +7,14 @@ use Rattle.refusals.specs.declared.Refusal.{Refusal}
 use Rattle.refusals.specs.declared.Verdict.{Verdict}
 use Rattle.refusals.specs.declared.Verdict.the-variants.{Pass, Refused}
 use Rattle.refusals.specs.Outcomes.{Outcome, passed, outcomeOf}
+use Rattle.refusals.specs.Order.{outcome}
 use Rattle.refusals.proofs.Joining.{passed-left, refused-first}
 use Rattle.line.specs.declared.Line.{Line}
 use Rattle.line.specs.Entries.{lineAfter}
 use Rattle.line.proofs.Beside.{beside-verdict}
-use Rattle.line.specs.Checks.{lineOutcome}
+use Rattle.line.specs.Checks.{lineChecks}
 use Rattle.packed_sheet.specs.Layout.{Edition, byteCount}
-use Rattle.packed_sheet.specs.Reading.{lineOf, frameOutcome, readOutcome, readLine}
+use Rattle.packed_sheet.specs.Reading.{lineOf, frameChecks, readChecks, readLine}
 use Rattle.packed_sheet.specs.Writing.{sheetNumber, sheetOf}
 use Rattle.bits.proofs.Bytes.{length-bytes}
 use Rattle.packed_sheet.proofs.Frames.{framed}
@@ -22,35 +23,35 @@ use Rattle.packed_sheet.proofs.Frames.{framed}
 
 module _ (E : Edition) (s : List ℕ) where
   -- Once 1 to 7 pass, the check of the line decides.
-  pub line-decides : frameOutcome E s ≡ passed → lineOutcome (lineOf E s) ≡ readOutcome E s
-  unfolding readOutcome lineOutcome lineOf
+  pub line-decides : outcome (frameChecks E s) ≡ passed → outcome (lineChecks (lineOf E s)) ≡ outcome (readChecks E s)
+  unfolding readChecks lineChecks lineOf
   line-decides e =
       rw (e, framed E s e .head)
 
   -- The line beside a verdict.
-  pub line-beside : (v : Verdict) {w : Verdict} {line : Line} → outcomeOf v ≡ readOutcome E s → v ≡ w
+  pub line-beside : (v : Verdict) {w : Verdict} {line : Line} → outcomeOf v ≡ outcome (readChecks E s) → v ≡ w
       → line ≡ lineAfter (outcomeOf w) (lineOf E s) → line ≡ readLine E s
   unfolding readLine
   line-beside v answer e l = beside-verdict v (lineOf E s) answer e l
 
   -- 1 to 7 refuse.
-  pub frame-refused : (v : Verdict) {r : Refusal} → outcomeOf v ≡ frameOutcome E s → v ≡ Refused r → outcomeOf v ≡ readOutcome E s
-  unfolding readOutcome
+  pub frame-refused : (v : Verdict) {r : Refusal} → outcomeOf v ≡ outcome (frameChecks E s) → v ≡ Refused r → outcomeOf v ≡ outcome (readChecks E s)
+  unfolding readChecks
   frame-refused v h e = refused-first v _ _ e h
 
   -- 1 to 7 pass, and the line is checked.
-  pub line-checked : (f : Verdict) {o : Outcome} {line : Line} → outcomeOf f ≡ frameOutcome E s → f ≡ Pass → line ≡ lineOf E s
-      → o ≡ lineOutcome line → o ≡ readOutcome E s
-  line-checked f h e l c = c ∙ ap lineOutcome l ∙ line-decides (sym h ∙ ap outcomeOf e)
+  pub line-checked : (f : Verdict) {o : Outcome} {line : Line} → outcomeOf f ≡ outcome (frameChecks E s) → f ≡ Pass → line ≡ lineOf E s
+      → o ≡ outcome (lineChecks line) → o ≡ outcome (readChecks E s)
+  line-checked f h e l c = c ∙ ap (λ (l : Line). outcome (lineChecks l)) l ∙ line-decides (sym h ∙ ap outcomeOf e)
 
   -- Where nothing is refused, 1 to 7 pass, and so does the line that is read.
-  pub frame-passes : readOutcome E s ≡ passed → frameOutcome E s ≡ passed
-  unfolding readOutcome
-  frame-passes e = passed-left (frameOutcome E s) _ e
+  pub frame-passes : outcome (readChecks E s) ≡ passed → outcome (frameChecks E s) ≡ passed
+  unfolding readChecks
+  frame-passes e = passed-left (outcome (frameChecks E s)) _ e
 
-  pub accepted-line : readOutcome E s ≡ passed → lineOutcome (readLine E s) ≡ passed
+  pub accepted-line : outcome (readChecks E s) ≡ passed → outcome (lineChecks (readLine E s)) ≡ passed
   unfolding readLine
-  accepted-line e = ap (λ (o : Outcome). lineOutcome (lineAfter o (lineOf E s))) e ∙ line-decides (frame-passes e) ∙ e
+  accepted-line e = ap (λ (o : Outcome). outcome (lineChecks (lineAfter o (lineOf E s)))) e ∙ line-decides (frame-passes e) ∙ e
 
 -- ---- the writer
 

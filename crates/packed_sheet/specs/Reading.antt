@@ -4,10 +4,10 @@ use mathlib.Core.List.{List}
 use Prim.Native.Nat.{ℕ, suc, _+_}
 use lib.Dec.{leb, eqb}
 use lib.ListN.{length, getD}
-use Rattle.refusals.specs.Outcomes.{Outcome, need, _▹_}
+use Rattle.refusals.specs.Order.{Checks, check, _⨾_, outcome}
 use Rattle.line.specs.declared.Curve.{Curve}
 use Rattle.line.specs.declared.Line.{Line}
-use Rattle.line.specs.Checks.{headOutcome, bodyOutcome, blankCurve}
+use Rattle.line.specs.Checks.{headChecks, bodyChecks, blankCurve}
 use Rattle.line.specs.Entries.{entries, lineAfter}
 use Rattle.packed_sheet.specs.declared.Head.{Head}
 use Rattle.bits.specs.Bits.{bitsAt, valuesAt}
@@ -57,23 +57,23 @@ lineOf E sheet =
     }
 
 -- 1: "fewer bytes than n calls for"; 7: "more bytes than n calls for, or a fill bit set"
-unfoldable pub sizeOutcome : Edition → List ℕ → ℕ → Outcome
-sizeOutcome E sheet n =
-    need (leb (byteCount E n) (length sheet)) 1 0
-    ▹ need (leb (length sheet) (byteCount E n) && eqb (bitsAt sheet (bitCount E n) (fillWidth E n)) 0) 7 0
+unfoldable pub sizeChecks : Edition → List ℕ → ℕ → Checks
+sizeChecks E sheet n =
+    check (leb (byteCount E n) (length sheet)) 1 0
+    ⨾ check (leb (length sheet) (byteCount E n) && eqb (bitsAt sheet (bitCount E n) (fillWidth E n)) 0) 7 0
 
 -- "1 (seven bytes), 2, 3, 4, 5, 6, 1 (full length), 7"
-unfoldable pub frameOutcome : Edition → List ℕ → Outcome
-frameOutcome E sheet =
-    need (leb 7 (length sheet)) 1 0
-    ▹ need (eqb (headOf E sheet .edition) (E .number)) 2 0
-    ▹ headOutcome (countOf E sheet) (headOf E sheet .speed) (headOf E sheet .crossfall) (headOf E sheet .start)
-    ▹ sizeOutcome E sheet (countOf E sheet)
+unfoldable pub frameChecks : Edition → List ℕ → Checks
+frameChecks E sheet =
+    check (leb 7 (length sheet)) 1 0
+    ⨾ check (eqb (headOf E sheet .edition) (E .number)) 2 0
+    ⨾ headChecks (countOf E sheet) (headOf E sheet .speed) (headOf E sheet .crossfall) (headOf E sheet .start)
+    ⨾ sizeChecks E sheet (countOf E sheet)
 
 -- "then 8 to 11 in sheet order"
-unfoldable pub readOutcome : Edition → List ℕ → Outcome
-readOutcome E sheet = frameOutcome E sheet ▹ bodyOutcome (lineOf E sheet) (countOf E sheet)
+unfoldable pub readChecks : Edition → List ℕ → Checks
+readChecks E sheet = frameChecks E sheet ⨾ bodyChecks (lineOf E sheet) (countOf E sheet)
 
 -- The line that the reader answers.
 unfoldable pub readLine : Edition → List ℕ → Line
-readLine E sheet = lineAfter (readOutcome E sheet) (lineOf E sheet)
+readLine E sheet = lineAfter (outcome (readChecks E sheet)) (lineOf E sheet)

@@ -1,13 +1,10 @@
 -- The sheet of a line (document 01, "Packed sheet"), and what the writer answers and leaves in the caller's bytes ("Order").
 use mathlib.Core.List.{List, [], _∷_}
 use Prim.Native.Nat.{ℕ, zero, suc}
-use lib.Dec.{leb}
-use lib.ListN.{length}
-use Rattle.refusals.specs.Outcomes.{Outcome, need, _▹_}
-use Rattle.refusals.specs.Filling.{FillReply, countAfter, bufferAfter}
+use Rattle.refusals.specs.Filling.{Fill, fill}
 use Rattle.line.specs.declared.Curve.{Curve}
 use Rattle.line.specs.declared.Line.{Line}
-use Rattle.line.specs.Checks.{distanceAt, curveAt, lineOutcome}
+use Rattle.line.specs.Checks.{distanceAt, curveAt, lineChecks}
 use Rattle.line.specs.Entries.{sideBit}
 use Rattle.bits.specs.Bits.{packed, bytesOf}
 use Rattle.packed_sheet.specs.Layout.{Edition, headWidths, distanceWidth, entryWidths, byteCount, fillWidth}
@@ -42,14 +39,6 @@ sheetNumber E line =
 unfoldable pub sheetOf : Edition → Line → List ℕ
 sheetOf E line = bytesOf (byteCount E (line .count)) (sheetNumber E line)
 
--- "Writer: 3 to 6, 8 to 11 likewise, 16", for `room` bytes lent
-unfoldable pub writeOutcome : Edition → Line → ℕ → Outcome
-writeOutcome E line room = lineOutcome line ▹ need (leb (byteCount E (line .count)) room) 16 0
-
--- What is answered: "returns its length in bytes", or the first refusal.
-unfoldable pub writeAnswer : Edition → Line → ℕ → FillReply
-writeAnswer E line room = countAfter (writeOutcome E line room) (byteCount E (line .count))
-
--- What the bytes then hold: "the sheet at the front of the lent bytes", the others untouched; after a refusal, what they held.
-unfoldable pub writeBytes : Edition → Line → List ℕ → List ℕ
-writeBytes E line bytes = bufferAfter (writeOutcome E line (length bytes)) (sheetOf E line) bytes
+-- The writer, with bytes lent: "3 to 6, 8 to 11 likewise, 16"; "the sheet at the front of the lent bytes", and its length returned
+unfoldable pub sheetIn : Edition → Line → List ℕ → Fill ℕ
+sheetIn E line = fill (lineChecks line) (sheetOf E line)

@@ -10,29 +10,30 @@ use lib.ListN.{length}
 use lib.IntN.{pos}
 use lib.Signed.{leZ}
 use Rattle.refusals.specs.Outcomes.{Outcome, passed, refused, need}
-use Rattle.refusals.specs.Filling.{FillReply, filled, unfilled, countAfter, withRoom, replyFor}
+use Rattle.refusals.specs.Filling.{FillReply, filled, unfilled, countAfter, withRoom, fill}
+use Rattle.refusals.specs.Order.{Checks, unchecked, outcome}
 use Rattle.refusals.proofs.Numbers.{Refuses, one-number, numbers-after, joined-numbers, wider}
 use Rattle.refusals.proofs.Joining.{never, passed-left, passed-right}
-use Rattle.line.specs.Checks.{curveOutcome, lineOutcome}
+use Rattle.line.specs.Checks.{curveChecks, lineChecks}
 use Rattle.line.proofs.InRange.{line-in-range}
 use Rattle.line.proofs.Numbers.{curve-numbers, line-numbers}
-use Rattle.line_numbers.specs.Numbers.{numberCount, numberAt, lineOf, countOutcome, numbersOutcome}
+use Rattle.line_numbers.specs.Numbers.{numberCount, numberAt, lineOf, countCheck, numbersChecks}
 use Rattle.line_numbers.proofs.Storing.{line-length}
 use Rattle.line_numbers.proofs.LineAndNumbers.{few-counted}
 use Rattle.packed_sheet.specs.Layout.{firstEdition}
-use Rattle.packed_sheet.specs.Reading.{readOutcome, readLine}
-use Rattle.packed_sheet.proofs.Frames.{count-below}
+use Rattle.packed_sheet.specs.Reading.{readChecks, readLine}
+use Rattle.packed_sheet.proofs.Frames.{framed, count-below}
 use Rattle.round_trips.proofs.Numbers.{read-numbers}
-use Rattle.packed_sheet.proofs.WaysOut.{accepted-line, sheet-length}
+use Rattle.packed_sheet.proofs.WaysOut.{frame-passes, accepted-line, sheet-length}
 use Rattle.elements.specs.WorkingRule.{arcOf}
-use Rattle.elements.specs.Answer.{arcOutcome, elementOutcome}
-use Rattle.stationing.specs.Answer.{alignmentOutcome}
+use Rattle.elements.specs.Answer.{arcCheck, elementChecks}
+use Rattle.stationing.specs.Answer.{alignmentChecks}
 use Rattle.stationing.proofs.Accepted.{few}
-use Rattle.stationing.proofs.WaysOut.{row-count}
-use Rattle.station_report.specs.Report.{sheetOutcome, sheetText}
+use Rattle.stationing.proofs.RowCount.{row-count}
+use Rattle.station_report.specs.Report.{sheetChecks, sheetText}
 use Rattle.station_report.proofs.Fits.{sheet-numbers, fits}
 use Rattle.pokyandi.specs.Answers.{answerNumber}
-use Rattle.pokyandi.specs.Calls.{sheetStations, checkReply, rewritten, sheetNumbers, numbersSheet, elementValues, elementNumbers}
+use Rattle.pokyandi.specs.Calls.{sheetStations, checkReply, sheetNumbers, numbersSheet, elementValues, elementNumbers}
 
 -- The upper and the lower half of an answer tell the reply.
 abbrev pub Told : FillReply → Type 0
@@ -51,14 +52,14 @@ outcome-told (refused n p) count r h =
     let place = r .place n p refl in
     (omega arith, omega arith, r .number n p refl .0, r .number n p refl .1)
 
-reply-told : (checks : Outcome) (content : List ℕ) (room : ℕ) → Refuses 1 16 127 checks → (checks ≡ passed → length content < 2 ^ 32)
-    → Told (replyFor checks content room)
-unfolding replyFor withRoom
-reply-told checks content room r h =
-    let small = need (leb (length content) room) 16 0 in
-    outcome-told (withRoom checks content room) (length content)
-    (joined-numbers checks small r (one-number (leb (length content) room) 16 0 (omega arith) (omega arith) (omega arith)))
-    (λ e. h (passed-left checks small e))
+reply-told : (checks : Checks) (content lent : List ℕ) → Refuses 1 16 127 (outcome checks) → (outcome checks ≡ passed → length content < 2 ^ 32)
+    → Told (fill checks content lent .reply)
+unfolding fill withRoom
+reply-told checks content lent r h =
+    let small = need (leb (length content) (length lent)) 16 0 in
+    outcome-told (outcome (withRoom checks content lent)) (length content)
+    (joined-numbers (outcome checks) small r (one-number (leb (length content) (length lent)) 16 0 (omega arith) (omega arith) (omega arith)))
+    (λ e. h (passed-left (outcome checks) small e))
 
 nothing-refused : Refuses 1 16 127 passed
 nothing-refused = record { number = λ n p e. never n p e; place = λ n p e. never n p e }
@@ -66,60 +67,58 @@ nothing-refused = record { number = λ n p e. never n p e; place = λ n p e. nev
 -- ---- the calls
 
 module _ (sheet : List ℕ) where
-  numbers : Refuses 1 16 127 (sheetOutcome sheet)
-  numbers = wider (sheetOutcome sheet) (sheet-numbers sheet) (omega arith) (omega arith) (omega arith)
+  numbers : Refuses 1 16 127 (outcome (sheetChecks sheet))
+  numbers = wider (outcome (sheetChecks sheet)) (sheet-numbers sheet) (omega arith) (omega arith) (omega arith)
 
-  read-few : Refuses 1 16 127 (readOutcome firstEdition sheet)
-  read-few = wider (readOutcome firstEdition sheet) (read-numbers firstEdition sheet) (omega arith) (omega arith) (omega (arith, count-below firstEdition sheet refl))
+  read-few : Refuses 1 16 127 (outcome (readChecks firstEdition sheet))
+  read-few = wider (outcome (readChecks firstEdition sheet)) (read-numbers firstEdition sheet) (omega arith) (omega arith) (omega (arith, count-below firstEdition sheet refl))
 
-  stations-few : sheetOutcome sheet ≡ passed → length (sheetStations sheet) < 2 ^ 32
-  unfolding sheetOutcome sheetStations
+  stations-few : outcome (sheetChecks sheet) ≡ passed → length (sheetStations sheet) < 2 ^ 32
+  unfolding sheetChecks sheetStations
   stations-few e =
       let line = readLine firstEdition sheet in
-      omega (arith, row-count line, few line (passed-right (readOutcome firstEdition sheet) (alignmentOutcome line) e))
+      omega (arith, row-count line, few line (passed-right (outcome (readChecks firstEdition sheet)) (outcome (alignmentChecks line)) e))
 
-  pub stations-told : (room : ℕ) → Told (replyFor (sheetOutcome sheet) (sheetStations sheet) room)
-  stations-told room = reply-told (sheetOutcome sheet) (sheetStations sheet) room numbers stations-few
+  pub stations-told : (lent : List ℕ) → Told (fill (sheetChecks sheet) (sheetStations sheet) lent .reply)
+  stations-told lent = reply-told (sheetChecks sheet) (sheetStations sheet) lent numbers stations-few
 
   pub check-told : Told (checkReply sheet)
   unfolding checkReply
-  check-told = outcome-told (sheetOutcome sheet) (length (sheetStations sheet)) numbers stations-few
+  check-told = outcome-told (outcome (sheetChecks sheet)) (length (sheetStations sheet)) numbers stations-few
 
-  pub rewrite-told : (room : ℕ) → Told (replyFor (readOutcome firstEdition sheet) (rewritten sheet) room)
-  unfolding rewritten
-  rewrite-told room =
-      let E = firstEdition in
-      let line = readLine E sheet in
-      reply-told (readOutcome E sheet) (rewritten sheet) room read-few
-      (λ e. omega (arith, sheet-length E line, line-in-range line (accepted-line E sheet e) .few))
+  -- The sheet's own bytes are as many as n calls for, or there is a refusal.
+  pub rewrite-told : (lent : List ℕ) → Told (fill (readChecks firstEdition sheet) sheet lent .reply)
+  rewrite-told lent =
+      reply-told (readChecks firstEdition sheet) sheet lent read-few
+      (λ e. omega (arith, framed firstEdition sheet (frame-passes firstEdition sheet e) .size, count-below firstEdition sheet refl))
 
-  pub read-told : (room : ℕ) → Told (replyFor (readOutcome firstEdition sheet) (sheetNumbers sheet) room)
+  pub read-told : (lent : List ℕ) → Told (fill (readChecks firstEdition sheet) (sheetNumbers sheet) lent .reply)
   unfolding sheetNumbers
-  read-told room =
+  read-told lent =
       let E = firstEdition in
       let line = readLine E sheet in
-      reply-told (readOutcome E sheet) (sheetNumbers sheet) room read-few
+      reply-told (readChecks E sheet) (sheetNumbers sheet) lent read-few
       (λ e. omega (arith, line-length line, line-in-range line (accepted-line E sheet e) .few))
 
-  pub text-told : (room : ℕ) → Told (replyFor passed (sheetText sheet) room)
-  text-told room = reply-told passed (sheetText sheet) room nothing-refused (λ e. omega (arith, fits sheet))
+  pub text-told : (lent : List ℕ) → Told (fill unchecked (sheetText sheet) lent .reply)
+  text-told lent = reply-told unchecked (sheetText sheet) lent nothing-refused (λ e. omega (arith, fits sheet))
 
-pub write-told : (numbers : List ℕ) (room : ℕ) → Told (replyFor (numbersOutcome numbers) (numbersSheet numbers) room)
-unfolding numbersOutcome numbersSheet countOutcome lineOf
-write-told numbers room =
+pub write-told : (numbers : List ℕ) (lent : List ℕ) → Told (fill (numbersChecks numbers) (numbersSheet numbers) lent .reply)
+unfolding numbersChecks numbersSheet countCheck lineOf
+write-told numbers lent =
     let n = numberAt numbers 0 in
     let line = lineOf numbers in
-    reply-told (numbersOutcome numbers) (numbersSheet numbers) room
-    (numbers-after (countOutcome numbers) (lineOutcome line)
+    reply-told (numbersChecks numbers) (numbersSheet numbers) lent
+    (numbers-after (outcome (countCheck numbers)) (outcome (lineChecks line))
     (one-number (leb n 64 && eqb (length numbers) (numberCount n)) 3 0 (omega arith) (omega arith) (omega arith))
-    (λ e. wider (lineOutcome line) (line-numbers line) (omega arith) (omega arith) (omega (arith, few-counted numbers e))))
-    (λ e. omega (arith, sheet-length firstEdition line, few-counted numbers (passed-left (countOutcome numbers) _ e)))
+    (λ e. wider (outcome (lineChecks line)) (line-numbers line) (omega arith) (omega arith) (omega (arith, few-counted numbers e))))
+    (λ e. omega (arith, sheet-length firstEdition line, few-counted numbers (passed-left (outcome (countCheck numbers)) _ e)))
 
-pub elements-told : (A R L room : ℕ) → Told (replyFor (elementOutcome A R L) (elementNumbers A R L) room)
-unfolding elementOutcome arcOutcome elementNumbers elementValues
-elements-told A R L room =
-    reply-told (elementOutcome A R L) (elementNumbers A R L) room
-    (joined-numbers (curveOutcome A R L 0) (arcOutcome A R L 0)
-    (wider (curveOutcome A R L 0) (curve-numbers {far = 0} A R L 0 (omega arith)) (omega arith) (omega arith) (omega arith))
+pub elements-told : (A R L : ℕ) (lent : List ℕ) → Told (fill (elementChecks A R L) (elementNumbers A R L) lent .reply)
+unfolding elementChecks arcCheck elementNumbers elementValues
+elements-told A R L lent =
+    reply-told (elementChecks A R L) (elementNumbers A R L) lent
+    (joined-numbers (outcome (curveChecks A R L 0)) (outcome (arcCheck A R L 0))
+    (wider (outcome (curveChecks A R L 0)) (curve-numbers {far = 0} A R L 0 (omega arith)) (omega arith) (omega arith) (omega arith))
     (one-number (leZ (pos 1000) (arcOf A R L)) 14 0 (omega arith) (omega arith) (omega arith)))
     (λ e. omega arith)

@@ -4,16 +4,17 @@ use mathlib.Core.List.{map}
 use Prim.Native.Nat.{ℕ}
 use lib.IntN.{pos}
 use Rattle.refusals.specs.Outcomes.{passed}
+use Rattle.refusals.specs.Order.{outcome}
 use Rattle.refusals.proofs.Joining.{passed-left}
-use Rattle.line.specs.Checks.{curveOutcome}
+use Rattle.line.specs.Checks.{curveChecks}
 use Rattle.line.proofs.InRange.{curve-in-range}
-use Rattle.elements.specs.Answer.{arcOutcome, valuesBy, elementOutcome}
+use Rattle.elements.specs.Answer.{arcCheck, valuesBy, elementChecks}
 use Rattle.elements.proofs.Bounds.{bounds}
 use Rattle.elements.proofs.Arc.{arc-answered}
 use Rattle.pokyandi.specs.Calls.{elementValues, elementNumbers}
 
-pub numbers-exact : (A R L : ℕ) → elementOutcome A R L ≡ passed → map pos (elementNumbers A R L) ≡ elementValues A R L
-unfolding elementOutcome elementNumbers elementValues valuesBy
+pub numbers-exact : (A R L : ℕ) → outcome (elementChecks A R L) ≡ passed → map pos (elementNumbers A R L) ≡ elementValues A R L
+unfolding elementChecks elementNumbers elementValues valuesBy
 numbers-exact A R L e =
-    let b = bounds A R L (curve-in-range A R L 0 (passed-left (curveOutcome A R L 0) (arcOutcome A R L 0) e)) in
+    let b = bounds A R L (curve-in-range A R L 0 (passed-left (outcome (curveChecks A R L 0)) (outcome (arcCheck A R L 0)) e)) in
     rw (b .X .same, b .Y .same, b .k .same, b .p .same, arc-answered A R L e .same, b .TT .same)

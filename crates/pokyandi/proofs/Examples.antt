@@ -1,7 +1,7 @@
 -- Answers by computation, and document 01's cases 1 and 9 as the calls for C and Rust give them. Assumes nothing.
 use mathlib.Core.Path.{_≡_, refl, sym, ap}
 use mathlib.Core.List.{[], _∷_}
-use Rattle.refusals.specs.Filling.{filled, unfilled, replyFor, bufferFor}
+use Rattle.refusals.specs.Filling.{filled, unfilled, fill}
 use Rattle.line.specs.Entries.{entries}
 use Rattle.line_numbers.specs.Numbers.{numbersTo, lineNumbers, lineOf}
 use Rattle.packed_sheet.proofs.Examples.{sheet9}
@@ -10,7 +10,7 @@ use Rattle.elements.specs.declared.Elements.{Elements}
 use Rattle.elements.proofs.Replies.{found-elements}
 use Rattle.elements.proofs.Examples as curves
 use Rattle.stationing.proofs.Examples as lines
-use Rattle.station_report.specs.Report.{sheetOutcome}
+use Rattle.station_report.specs.Report.{sheetChecks}
 use Rattle.pokyandi.specs.Answers.{answerNumber}
 use Rattle.pokyandi.specs.Calls.{sheetStations, sheetNumbers, numbersSheet, elementNumbers}
 use Rattle.pokyandi.proofs.Replies.{stations-reply, found-numbers}
@@ -22,8 +22,8 @@ pub record Examples : Type 0 where
   pub case-1 : elementNumbers 177764 350000 40000 ≡ 39986940 ∷ 761727 ∷ 19997823 ∷ 190454 ∷ 261638467 ∷ 180989278 ∷ []
   pub case-9-numbers : sheetNumbers sheet9 ≡ 0 ∷ 70 ∷ 8 ∷ 0 ∷ 500000 ∷ []
   pub case-9-sheet : numbersSheet (0 ∷ 70 ∷ 8 ∷ 0 ∷ 500000 ∷ []) ≡ sheet9
-  pub case-9 : replyFor (sheetOutcome sheet9) (sheetStations sheet9) 1 ≡ filled 1
-  pub case-9-end : bufferFor (sheetOutcome sheet9) (sheetStations sheet9) (7 ∷ []) ≡ 500000000 ∷ []
+  pub case-9 : fill (sheetChecks sheet9) (sheetStations sheet9) (7 ∷ []) .reply ≡ filled 1
+  pub case-9-end : fill (sheetChecks sheet9) (sheetStations sheet9) (7 ∷ []) .buffer ≡ 500000000 ∷ []
 
 -- Case 1's curve as the element call answers it.
 abbrev elements1 : Elements
@@ -31,8 +31,8 @@ elements1 =
     record { x = 39986940; y = 761727; centre = 19997823; shift = 190454; arc = 261638467; tangent = 180989278 }
 
 -- Case 9, whose row held 7.
-stations9 : (filled 1 ≡ replyFor (sheetOutcome sheet9) (sheetStations sheet9) 1)
-    × (500000000 ∷ [] ≡ bufferFor (sheetOutcome sheet9) (sheetStations sheet9) (7 ∷ []))
+stations9 : (filled 1 ≡ fill (sheetChecks sheet9) (sheetStations sheet9) (7 ∷ []) .reply)
+    × (500000000 ∷ [] ≡ fill (sheetChecks sheet9) (sheetStations sheet9) (7 ∷ []) .buffer)
 stations9 =
     stations-reply sheet9 (sheets.examples .case-9-read) (sym (sheets.examples .case-9-line)) (7 ∷ [])
     (sym (lines.examples .case-9), sym (lines.examples .case-9-row))

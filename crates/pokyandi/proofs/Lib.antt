@@ -1,6 +1,5 @@
 -- Laws of the calls for C and Rust.
 pub mod Replies
-pub mod Rewriting
 pub mod ReadAndWrite
 pub mod Elements
 pub mod AnswersTold

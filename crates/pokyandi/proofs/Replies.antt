@@ -4,116 +4,118 @@ use mathlib.Core.Bool.{Bool}
 use mathlib.Core.List.{List, [], _∷_}
 use Prim.Native.Nat.{ℕ, _≤_}
 use native.Mathlib.Omega.{arith}
+use lib.Dec.{leb}
 use lib.IntN.{natAbs}
 use lib.ListN.{length}
 use borrow.Author.Tests.{le-leb}
 use Rattle.refusals.specs.Outcomes.{Outcome, passed, refused, need, _▹_}
-use Rattle.refusals.specs.Filling.{FillReply, unfilled, countAfter, withRoom, replyFor, bufferFor}
+use Rattle.refusals.specs.Order.{unchecked, outcome}
+use Rattle.refusals.specs.Filling.{FillReply, unfilled, countAfter, withRoom, fill}
 use Rattle.refusals.proofs.Joining.{passed-right}
-use Rattle.refusals.proofs.FillWays.{refused-reply}
+use Rattle.refusals.proofs.FillWays.{refused-fill, refill}
 use Rattle.line.specs.declared.Line.{Line}
-use Rattle.line.specs.Checks.{lineOutcome}
+use Rattle.line.specs.Checks.{lineChecks}
 use Rattle.line.specs.Entries.{lineAfter}
 use Rattle.line.proofs.InRange.{line-in-range}
-use Rattle.line_numbers.specs.Numbers.{lineNumbers, fewOutcome, lineOf, countOutcome, numbersOutcome}
+use Rattle.line_numbers.specs.Numbers.{lineNumbers, fewCheck, lineOf, countCheck, numbersChecks}
+use Rattle.bits.specs.Bits.{Bytes}
 use Rattle.packed_sheet.specs.Layout.{firstEdition}
-use Rattle.packed_sheet.specs.Reading.{readOutcome, readLine}
-use Rattle.packed_sheet.specs.Writing.{writeOutcome, writeAnswer, writeBytes}
-use Rattle.packed_sheet.proofs.WaysOut.{accepted-line, sheet-length}
+use Rattle.packed_sheet.specs.Reading.{readChecks, readLine}
+use Rattle.packed_sheet.specs.Writing.{sheetOf, sheetIn}
+use Rattle.packed_sheet.proofs.WaysOut.{accepted-line}
+use Rattle.round_trips.proofs.RoundTrip.{read-then-write}
 use Rattle.elements.specs.declared.Elements.{Elements}
-use Rattle.elements.specs.Answer.{valuesBy, elementOutcome}
+use Rattle.elements.specs.Answer.{valuesBy, elementChecks}
 use Rattle.elements.proofs.Replies.{FoundElements}
 use Rattle.stationing.specs.Stations.{stationRow}
-use Rattle.stationing.specs.Answer.{alignmentOutcome, roomCheck, stationsOutcome, stationsAnswer, stationsRow}
+use Rattle.stationing.specs.Answer.{alignmentChecks, stationsIn}
 use Rattle.stationing.proofs.Accepted.{few}
-use Rattle.stationing.proofs.WaysOut.{row-count}
-use Rattle.station_report.specs.Report.{sheetOutcome}
-use Rattle.pokyandi.specs.Calls.{sheetStations, checkReply, rewritten, sheetNumbers, numbersSheet, elementValues, elementNumbers, numbersOf}
+use Rattle.stationing.proofs.RowCount.{row-count}
+use Rattle.station_report.specs.Report.{sheetChecks}
+use Rattle.pokyandi.specs.Calls.{sheetStations, checkReply, sheetNumbers, numbersSheet, elementValues, elementNumbers, numbersOf}
 
 -- ---- the calls on a sheet
 
 -- The reader's refusal is the sheet's.
-pub refused-sheet : (sheet row : List ℕ) {n p : ℕ} → readOutcome firstEdition sheet ≡ refused n p
-    → (unfilled n p ≡ replyFor (sheetOutcome sheet) (sheetStations sheet) (length row))
-    × (row ≡ bufferFor (sheetOutcome sheet) (sheetStations sheet) row)
-unfolding sheetOutcome
+pub refused-sheet : (sheet row : List ℕ) {n p : ℕ} → outcome (readChecks firstEdition sheet) ≡ refused n p
+    → (unfilled n p ≡ fill (sheetChecks sheet) (sheetStations sheet) row .reply)
+    × (row ≡ fill (sheetChecks sheet) (sheetStations sheet) row .buffer)
+unfolding sheetChecks
 refused-sheet sheet row e =
-    refused-reply (sheetOutcome sheet) (sheetStations sheet) row (ap (λ (o : Outcome). o ▹ alignmentOutcome (readLine firstEdition sheet)) e)
+    refused-fill (sheetChecks sheet) (sheetStations sheet) row (ap (λ (o : Outcome). o ▹ outcome (alignmentChecks (readLine firstEdition sheet))) e)
 
-module _ (sheet : List ℕ) (accepted : readOutcome firstEdition sheet ≡ passed) {line : Line} (same : line ≡ readLine firstEdition sheet) where
+module _ (sheet : List ℕ) (accepted : outcome (readChecks firstEdition sheet) ≡ passed) {line : Line} (same : line ≡ readLine firstEdition sheet) where
   -- The calculator's answer for the sheet's line is the one for the sheet.
   pub stations-reply : (row : List ℕ) {reply : FillReply} {after : List ℕ}
-      → (reply ≡ stationsAnswer line (length row)) × (after ≡ stationsRow line row)
-      → (reply ≡ replyFor (sheetOutcome sheet) (sheetStations sheet) (length row))
-      × (after ≡ bufferFor (sheetOutcome sheet) (sheetStations sheet) row)
-  unfolding stationsAnswer stationsRow stationsOutcome roomCheck replyFor bufferFor withRoom sheetOutcome sheetStations
+      → (reply ≡ stationsIn line row .reply) × (after ≡ stationsIn line row .buffer)
+      → (reply ≡ fill (sheetChecks sheet) (sheetStations sheet) row .reply)
+      × (after ≡ fill (sheetChecks sheet) (sheetStations sheet) row .buffer)
+  unfolding stationsIn sheetChecks sheetStations
   stations-reply row told =
-      let E = firstEdition in (
-        told .0 ∙ ap (λ (l : Line). stationsAnswer l (length row)) same ∙ rw (accepted, row-count (readLine E sheet)) refl,
-        told .1 ∙ ap (λ (l : Line). stationsRow l row) same ∙ rw (accepted, row-count (readLine E sheet)) refl,
-      )
+      let checks : outcome (alignmentChecks line) ≡ outcome (sheetChecks sheet) =
+      λ j. sym accepted j ▹ outcome (alignmentChecks (same j)) in
+      refill (alignmentChecks line) (sheetChecks sheet) (stationRow line) (sheetStations sheet) row checks (ap stationRow same) told
 
-  -- And so is the writer's.
-  pub rewrite-reply : (bytes : List ℕ) {reply : FillReply} {after : List ℕ}
-      → (reply ≡ writeAnswer firstEdition line (length bytes)) × (after ≡ writeBytes firstEdition line bytes)
-      → (reply ≡ replyFor (readOutcome firstEdition sheet) (rewritten sheet) (length bytes))
-      × (after ≡ bufferFor (readOutcome firstEdition sheet) (rewritten sheet) bytes)
-  unfolding writeAnswer writeBytes writeOutcome replyFor bufferFor withRoom rewritten
-  rewrite-reply bytes told =
+  -- The writer's is the one for the sheet's own bytes.
+  pub rewrite-reply : Bytes sheet → (bytes : List ℕ) {reply : FillReply} {after : List ℕ}
+      → (reply ≡ sheetIn firstEdition line bytes .reply) × (after ≡ sheetIn firstEdition line bytes .buffer)
+      → (reply ≡ fill (readChecks firstEdition sheet) sheet bytes .reply)
+      × (after ≡ fill (readChecks firstEdition sheet) sheet bytes .buffer)
+  unfolding sheetIn
+  rewrite-reply ok bytes told =
       let E = firstEdition in
-      let checked = accepted-line E sheet accepted in (
-        told .0 ∙ ap (λ (l : Line). writeAnswer E l (length bytes)) same ∙ rw (accepted, checked, sheet-length E (readLine E sheet)) refl,
-        told .1 ∙ ap (λ (l : Line). writeBytes E l bytes) same ∙ rw (accepted, checked, sheet-length E (readLine E sheet)) refl,
-      )
+      let checks : outcome (lineChecks line) ≡ outcome (readChecks E sheet) =
+      ap (λ (l : Line). outcome (lineChecks l)) same ∙ accepted-line E sheet accepted ∙ sym accepted in
+      refill (lineChecks line) (readChecks E sheet) (sheetOf E line) sheet bytes checks (ap (sheetOf E) same ∙ read-then-write E sheet ok accepted) told
 
   -- The numbers of the sheet's line.
   pub numbers-reply : (buffer : List ℕ) {reply : FillReply} {after : List ℕ}
-      → (reply ≡ replyFor (fewOutcome line) (lineNumbers line) (length buffer)) × (after ≡ bufferFor (fewOutcome line) (lineNumbers line) buffer)
-      → (reply ≡ replyFor (readOutcome firstEdition sheet) (sheetNumbers sheet) (length buffer))
-      × (after ≡ bufferFor (readOutcome firstEdition sheet) (sheetNumbers sheet) buffer)
+      → (reply ≡ fill (fewCheck line) (lineNumbers line) buffer .reply) × (after ≡ fill (fewCheck line) (lineNumbers line) buffer .buffer)
+      → (reply ≡ fill (readChecks firstEdition sheet) (sheetNumbers sheet) buffer .reply)
+      × (after ≡ fill (readChecks firstEdition sheet) (sheetNumbers sheet) buffer .buffer)
   unfolding sheetNumbers
   numbers-reply buffer told =
       let E = firstEdition in
       let few = line-in-range (readLine E sheet) (accepted-line E sheet accepted) .few in
-      let checks : fewOutcome line ≡ readOutcome E sheet =
-      ap fewOutcome same ∙ ap (λ (b : Bool). need b 3 0) (le-leb (readLine E sheet .count) 64 few) ∙ sym accepted in
-      let content = ap lineNumbers same in
-      (told .0 ∙ λ j. replyFor (checks j) (content j) (length buffer), told .1 ∙ λ j. bufferFor (checks j) (content j) buffer)
+      let checks : outcome (fewCheck line) ≡ outcome (readChecks E sheet) =
+      ap (λ (l : Line). outcome (fewCheck l)) same ∙ ap (λ (b : Bool). need b 3 0) (le-leb (readLine E sheet .count) 64 few) ∙ sym accepted in
+      refill (fewCheck line) (readChecks E sheet) (lineNumbers line) (sheetNumbers sheet) buffer checks (ap lineNumbers same) told
 
 -- The refusal of a line's count is that of its numbers, and where there is none the writer's answer for their line is the one for them.
-pub refused-count : (numbers buffer : List ℕ) {n p : ℕ} → countOutcome numbers ≡ refused n p
-    → (unfilled n p ≡ replyFor (numbersOutcome numbers) (numbersSheet numbers) (length buffer))
-    × (buffer ≡ bufferFor (numbersOutcome numbers) (numbersSheet numbers) buffer)
-unfolding numbersOutcome
+pub refused-count : (numbers buffer : List ℕ) {n p : ℕ} → outcome (countCheck numbers) ≡ refused n p
+    → (unfilled n p ≡ fill (numbersChecks numbers) (numbersSheet numbers) buffer .reply)
+    × (buffer ≡ fill (numbersChecks numbers) (numbersSheet numbers) buffer .buffer)
+unfolding numbersChecks
 refused-count numbers buffer e =
-    refused-reply (numbersOutcome numbers) (numbersSheet numbers) buffer (ap (λ (o : Outcome). o ▹ lineOutcome (lineOf numbers)) e)
+    refused-fill (numbersChecks numbers) (numbersSheet numbers) buffer (ap (λ (o : Outcome). o ▹ outcome (lineChecks (lineOf numbers))) e)
 
-pub write-reply : (numbers bytes : List ℕ) {line : Line} {reply : FillReply} {after : List ℕ} → countOutcome numbers ≡ passed
-    → line ≡ lineAfter (countOutcome numbers) (lineOf numbers)
-    → (reply ≡ writeAnswer firstEdition line (length bytes)) × (after ≡ writeBytes firstEdition line bytes)
-    → (reply ≡ replyFor (numbersOutcome numbers) (numbersSheet numbers) (length bytes))
-    × (after ≡ bufferFor (numbersOutcome numbers) (numbersSheet numbers) bytes)
-unfolding writeAnswer writeBytes writeOutcome replyFor bufferFor withRoom numbersOutcome numbersSheet
-write-reply numbers bytes counted line told =
+pub write-reply : (numbers bytes : List ℕ) {line : Line} {reply : FillReply} {after : List ℕ} → outcome (countCheck numbers) ≡ passed
+    → line ≡ lineAfter (outcome (countCheck numbers)) (lineOf numbers)
+    → (reply ≡ sheetIn firstEdition line bytes .reply) × (after ≡ sheetIn firstEdition line bytes .buffer)
+    → (reply ≡ fill (numbersChecks numbers) (numbersSheet numbers) bytes .reply)
+    × (after ≡ fill (numbersChecks numbers) (numbersSheet numbers) bytes .buffer)
+unfolding sheetIn numbersChecks numbersSheet
+write-reply numbers bytes {line} counted read told =
     let E = firstEdition in
-    let same = line ∙ ap (λ (o : Outcome). lineAfter o (lineOf numbers)) counted in (
-      told .0 ∙ ap (λ (l : Line). writeAnswer E l (length bytes)) same ∙ rw (counted, sheet-length E (lineOf numbers)) refl,
-      told .1 ∙ ap (λ (l : Line). writeBytes E l bytes) same ∙ rw (counted, sheet-length E (lineOf numbers)) refl,
-    )
+    let same : line ≡ lineOf numbers = read ∙ ap (λ (o : Outcome). lineAfter o (lineOf numbers)) counted in
+    let checks : outcome (lineChecks line) ≡ outcome (numbersChecks numbers) =
+    λ j. sym counted j ▹ outcome (lineChecks (same j)) in
+    refill (lineChecks line) (numbersChecks numbers) (sheetOf E line) (numbersSheet numbers) bytes checks (ap (sheetOf E) same) told
 
 -- No sheet has more than 257 stations, so that such a row is never too small.
-pub check-reply : (sheet : List ℕ) {room : ℕ} → 257 ≤ room → replyFor (sheetOutcome sheet) (sheetStations sheet) room ≡ checkReply sheet
-unfolding replyFor withRoom checkReply sheetStations sheetOutcome
-check-reply sheet {room} wide = go (sheetOutcome sheet) refl
+pub check-reply : (sheet row : List ℕ) → 257 ≤ length row → fill (sheetChecks sheet) (sheetStations sheet) row .reply ≡ checkReply sheet
+unfolding fill withRoom checkReply sheetStations sheetChecks
+check-reply sheet row wide = go (outcome (sheetChecks sheet)) refl
   where
     line : Line
     line = readLine firstEdition sheet
 
-    go : (o : Outcome) → sheetOutcome sheet ≡ o → countAfter (withRoom o (stationRow line) room) (length (stationRow line)) ≡ countAfter o (length (stationRow line))
+    go : (o : Outcome) → outcome (sheetChecks sheet) ≡ o
+        → countAfter (o ▹ need (leb (length (stationRow line)) (length row)) 16 0) (length (stationRow line)) ≡ countAfter o (length (stationRow line))
     go (refused n p) e = refl
     go passed e =
-        let size = few line (passed-right (readOutcome firstEdition sheet) (alignmentOutcome line) e) in
-        rw (le-leb (length (stationRow line)) room (omega (arith, wide, row-count line, size))) refl
+        let size = few line (passed-right (outcome (readChecks firstEdition sheet)) (outcome (alignmentChecks line)) e) in
+        rw (le-leb (length (stationRow line)) (length row) (omega (arith, wide, row-count line, size))) refl
 
 -- ---- the call on one curve
 
@@ -124,10 +126,8 @@ found-numbers A R L e f =
     λ j. natAbs (f .X j) ∷ natAbs (f .Y j) ∷ natAbs (f .k j) ∷ natAbs (f .p j) ∷ natAbs (f .D j) ∷ natAbs (f .TT j) ∷ []
 
 pub found-reply : (A R L : ℕ) (e : Elements) (buffer : List ℕ) {reply : FillReply} {after : List ℕ} → FoundElements A R L e
-    → (reply ≡ replyFor passed (numbersOf e) (length buffer)) × (after ≡ bufferFor passed (numbersOf e) buffer)
-    → (reply ≡ replyFor (elementOutcome A R L) (elementNumbers A R L) (length buffer))
-    × (after ≡ bufferFor (elementOutcome A R L) (elementNumbers A R L) buffer)
+    → (reply ≡ fill unchecked (numbersOf e) buffer .reply) × (after ≡ fill unchecked (numbersOf e) buffer .buffer)
+    → (reply ≡ fill (elementChecks A R L) (elementNumbers A R L) buffer .reply)
+    × (after ≡ fill (elementChecks A R L) (elementNumbers A R L) buffer .buffer)
 found-reply A R L e buffer f told =
-    let checked = sym (f .checked) in
-    let numbers = found-numbers A R L e f in
-    (told .0 ∙ λ j. replyFor (checked j) (numbers j) (length buffer), told .1 ∙ λ j. bufferFor (checked j) (numbers j) buffer)
+    refill unchecked (elementChecks A R L) (numbersOf e) (elementNumbers A R L) buffer (sym (f .checked)) (found-numbers A R L e f) told

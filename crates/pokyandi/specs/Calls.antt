@@ -3,6 +3,7 @@ use mathlib.Core.List.{List, [], _∷_, map}
 use Prim.Native.Nat.{ℕ, _+_, _*_}
 use lib.IntN.{ℤ, natAbs}
 use lib.ListN.{length}
+use Rattle.refusals.specs.Order.{outcome}
 use Rattle.refusals.specs.Filling.{FillReply, countAfter}
 use Rattle.line_numbers.specs.Numbers.{lineNumbers, lineOf}
 use Rattle.packed_sheet.specs.Layout.{firstEdition}
@@ -11,7 +12,7 @@ use Rattle.packed_sheet.specs.Writing.{sheetOf}
 use Rattle.elements.specs.declared.Elements.{Elements}
 use Rattle.elements.specs.Answer.{Values, valuesBy}
 use Rattle.stationing.specs.Stations.{stationRow}
-use Rattle.station_report.specs.Report.{sheetOutcome}
+use Rattle.station_report.specs.Report.{sheetChecks}
 
 -- The stations of a sheet's line.
 unfoldable pub sheetStations : List ℕ → List ℕ
@@ -19,11 +20,7 @@ sheetStations sheet = stationRow (readLine firstEdition sheet)
 
 -- What the check of a sheet says: how many stations it has, or the first refusal of reader and calculator.
 unfoldable pub checkReply : List ℕ → FillReply
-checkReply sheet = countAfter (sheetOutcome sheet) (length (sheetStations sheet))
-
--- "a sheet read and written again"
-unfoldable pub rewritten : List ℕ → List ℕ
-rewritten sheet = sheetOf firstEdition (readLine firstEdition sheet)
+checkReply sheet = countAfter (outcome (sheetChecks sheet)) (length (sheetStations sheet))
 
 -- The line of a sheet, as numbers.
 unfoldable pub sheetNumbers : List ℕ → List ℕ

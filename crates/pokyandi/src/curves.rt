@@ -1,9 +1,8 @@
 // The call on one curve.
 ghost use mathlib.Core.Path.{_≡_};
-ghost use lib.ListN.{length};
-ghost use Rattle.refusals.specs.Outcomes.{passed};
-ghost use Rattle.refusals.specs.Filling.{fillReplyOf, replyFor, bufferFor};
-ghost use Rattle.elements.specs.Answer.{elementOutcome};
+ghost use Rattle.refusals.specs.Order.{unchecked};
+ghost use Rattle.refusals.specs.Filling.{fillReplyOf, fill};
+ghost use Rattle.elements.specs.Answer.{elementChecks};
 ghost use Rattle.pokyandi.specs.Calls.{elementNumbers, numbersOf};
 use elements::ElementAnswer;
 use elements::Elements;
@@ -12,8 +11,8 @@ use refusals::Refusal;
 
 // X, Y, k, p, D and TT at the front of `numbers`, or refusal 16.
 fn store_elements(elements: Elements, numbers: &mut [u64]) -> FillAnswer
-    ensures { λ a. ⌜ fillReplyOf a ≡ replyFor passed (numbersOf elements) (length (now (numbers .entry))) ⌝ }
-    ensures { λ _. ⌜ now (numbers .exit) ≡ bufferFor passed (numbersOf elements) (now (numbers .entry)) ⌝ }
+    ensures { λ a. ⌜ fillReplyOf a ≡ fill unchecked (numbersOf elements) (now (numbers .entry)) .reply ⌝ }
+    ensures { λ _. ⌜ now (numbers .exit) ≡ fill unchecked (numbersOf elements) (now (numbers .entry)) .buffer ⌝ }
 {
     if numbers.len() < 6 {
         return FillAnswer::Refused(Refusal::SmallBuffer);
@@ -34,8 +33,8 @@ pub(crate) fn curve_numbers(
     spiral: u32,
     numbers: &mut [u64],
 ) -> FillAnswer
-    ensures { λ a. ⌜ fillReplyOf a ≡ replyFor (elementOutcome deflection radius spiral) (elementNumbers deflection radius spiral) (length (now (numbers .entry))) ⌝ }
-    ensures { λ _. ⌜ now (numbers .exit) ≡ bufferFor (elementOutcome deflection radius spiral) (elementNumbers deflection radius spiral) (now (numbers .entry)) ⌝ }
+    ensures { λ a. ⌜ fillReplyOf a ≡ fill (elementChecks deflection radius spiral) (elementNumbers deflection radius spiral) (now (numbers .entry)) .reply ⌝ }
+    ensures { λ _. ⌜ now (numbers .exit) ≡ fill (elementChecks deflection radius spiral) (elementNumbers deflection radius spiral) (now (numbers .entry)) .buffer ⌝ }
 {
     let answer = elements::curve_elements(deflection, radius, spiral);
     match answer {

@@ -6,16 +6,16 @@ mod lines;
 mod sheets;
 
 ghost use mathlib.Core.Path.{_≡_};
-ghost use lib.ListN.{length};
-ghost use Rattle.refusals.specs.Outcomes.{passed};
-ghost use Rattle.line_numbers.specs.Numbers.{numbersOutcome};
+ghost use Rattle.refusals.specs.Order.{unchecked};
+ghost use Rattle.refusals.specs.Filling.{fill};
+ghost use Rattle.line_numbers.specs.Numbers.{numbersChecks};
+ghost use Rattle.bits.specs.Bits.{Bytes};
 ghost use Rattle.packed_sheet.specs.Layout.{firstEdition};
-ghost use Rattle.packed_sheet.specs.Reading.{readOutcome};
-ghost use Rattle.elements.specs.Answer.{elementOutcome};
-ghost use Rattle.station_report.specs.Report.{sheetOutcome, sheetText};
-ghost use Rattle.refusals.specs.Filling.{replyFor, bufferFor};
+ghost use Rattle.packed_sheet.specs.Reading.{readChecks};
+ghost use Rattle.elements.specs.Answer.{elementChecks};
+ghost use Rattle.station_report.specs.Report.{sheetChecks, sheetText};
 ghost use Rattle.pokyandi.specs.Answers.{answerNumber};
-ghost use Rattle.pokyandi.specs.Calls.{sheetStations, checkReply, rewritten, sheetNumbers, numbersSheet, elementNumbers, version};
+ghost use Rattle.pokyandi.specs.Calls.{sheetStations, checkReply, sheetNumbers, numbersSheet, elementNumbers, version};
 use crate::answer::answer_number;
 use crate::curves::curve_numbers;
 use crate::lines::sheet_numbers;
@@ -27,8 +27,8 @@ use crate::sheets::sheet_stations;
 // Refusals 1 to 15, the reader's and then the calculator's, then 16.
 #[no_mangle]
 pub extern "C" fn pokyandi_stations(sheet: &[u8], row: &mut [u64]) -> u64
-    ensures answer { λ r. ⌜ r ≡ answerNumber (replyFor (sheetOutcome (now (sheet .entry))) (sheetStations (now (sheet .entry))) (length (now (row .entry)))) ⌝ }
-    ensures memory { λ _. ⌜ now (row .exit) ≡ bufferFor (sheetOutcome (now (sheet .entry))) (sheetStations (now (sheet .entry))) (now (row .entry)) ⌝ }
+    ensures answer { λ r. ⌜ r ≡ answerNumber (fill (sheetChecks (now (sheet .entry))) (sheetStations (now (sheet .entry))) (now (row .entry)) .reply) ⌝ }
+    ensures memory { λ _. ⌜ now (row .exit) ≡ fill (sheetChecks (now (sheet .entry))) (sheetStations (now (sheet .entry))) (now (row .entry)) .buffer ⌝ }
 {
     answer_number(sheet_stations(sheet, &mut *row))
 }
@@ -42,11 +42,11 @@ pub extern "C" fn pokyandi_check(sheet: &[u8]) -> u64
     answer_number(sheet_stations(sheet, &mut row))
 }
 
-// A sheet read and written again, the same bytes (`proofs/Rewriting.antt`), at the front of `bytes`. Refusals 1 to 11, then 16.
+// A sheet read and written again, its own bytes, at the front of `bytes`. Refusals 1 to 11, then 16.
 #[no_mangle]
 pub extern "C" fn pokyandi_rewrite(sheet: &[u8], bytes: &mut [u8]) -> u64
-    ensures answer { λ r. ⌜ r ≡ answerNumber (replyFor (readOutcome firstEdition (now (sheet .entry))) (rewritten (now (sheet .entry))) (length (now (bytes .entry)))) ⌝ }
-    ensures memory { λ _. ⌜ now (bytes .exit) ≡ bufferFor (readOutcome firstEdition (now (sheet .entry))) (rewritten (now (sheet .entry))) (now (bytes .entry)) ⌝ }
+    ensures answer { λ r. ⌜ r ≡ answerNumber (fill (readChecks firstEdition (now (sheet .entry))) (now (sheet .entry)) (now (bytes .entry)) .reply) ⌝ }
+    ensures memory { λ _. ⌜ now (bytes .exit) ≡ fill (readChecks firstEdition (now (sheet .entry))) (now (sheet .entry)) (now (bytes .entry)) .buffer ⌝ }
 {
     answer_number(rewrite_sheet(sheet, &mut *bytes))
 }
@@ -55,8 +55,9 @@ pub extern "C" fn pokyandi_rewrite(sheet: &[u8], bytes: &mut [u8]) -> u64
 // it for each curve. Refusals 1 to 11, then 16.
 #[no_mangle]
 pub extern "C" fn pokyandi_read(sheet: &[u8], line: &mut [u32]) -> u64
-    ensures answer { λ r. ⌜ r ≡ answerNumber (replyFor (readOutcome firstEdition (now (sheet .entry))) (sheetNumbers (now (sheet .entry))) (length (now (line .entry)))) ⌝ }
-    ensures memory { λ _. ⌜ now (line .exit) ≡ bufferFor (readOutcome firstEdition (now (sheet .entry))) (sheetNumbers (now (sheet .entry))) (now (line .entry)) ⌝ }
+    ensures answer { λ r. ⌜ r ≡ answerNumber (fill (readChecks firstEdition (now (sheet .entry))) (sheetNumbers (now (sheet .entry))) (now (line .entry)) .reply) ⌝ }
+    ensures memory { λ _. ⌜ now (line .exit) ≡ fill (readChecks firstEdition (now (sheet .entry))) (sheetNumbers (now (sheet .entry))) (now (line .entry)) .buffer ⌝ }
+    ensures bytes { λ _. ⌜ Bytes (now (sheet .entry)) ⌝ }
 {
     answer_number(sheet_numbers(sheet, &mut *line))
 }
@@ -65,8 +66,8 @@ pub extern "C" fn pokyandi_read(sheet: &[u8], line: &mut [u32]) -> u64
 // 11 in sheet order, 9 for a side other than 0 and 1 too, then 16.
 #[no_mangle]
 pub extern "C" fn pokyandi_write(line: &[u32], bytes: &mut [u8]) -> u64
-    ensures answer { λ r. ⌜ r ≡ answerNumber (replyFor (numbersOutcome (now (line .entry))) (numbersSheet (now (line .entry))) (length (now (bytes .entry)))) ⌝ }
-    ensures memory { λ _. ⌜ now (bytes .exit) ≡ bufferFor (numbersOutcome (now (line .entry))) (numbersSheet (now (line .entry))) (now (bytes .entry)) ⌝ }
+    ensures answer { λ r. ⌜ r ≡ answerNumber (fill (numbersChecks (now (line .entry))) (numbersSheet (now (line .entry))) (now (bytes .entry)) .reply) ⌝ }
+    ensures memory { λ _. ⌜ now (bytes .exit) ≡ fill (numbersChecks (now (line .entry))) (numbersSheet (now (line .entry))) (now (bytes .entry)) .buffer ⌝ }
 {
     answer_number(write_numbers(line, &mut *bytes))
 }
@@ -80,8 +81,8 @@ pub extern "C" fn pokyandi_elements(
     spiral: u32,
     numbers: &mut [u64],
 ) -> u64
-    ensures answer { λ r. ⌜ r ≡ answerNumber (replyFor (elementOutcome deflection radius spiral) (elementNumbers deflection radius spiral) (length (now (numbers .entry)))) ⌝ }
-    ensures memory { λ _. ⌜ now (numbers .exit) ≡ bufferFor (elementOutcome deflection radius spiral) (elementNumbers deflection radius spiral) (now (numbers .entry)) ⌝ }
+    ensures answer { λ r. ⌜ r ≡ answerNumber (fill (elementChecks deflection radius spiral) (elementNumbers deflection radius spiral) (now (numbers .entry)) .reply) ⌝ }
+    ensures memory { λ _. ⌜ now (numbers .exit) ≡ fill (elementChecks deflection radius spiral) (elementNumbers deflection radius spiral) (now (numbers .entry)) .buffer ⌝ }
 {
     answer_number(curve_numbers(deflection, radius, spiral, &mut *numbers))
 }
@@ -89,8 +90,8 @@ pub extern "C" fn pokyandi_elements(
 // What the program `stations` prints for a sheet, at the front of `text`. Refusal 16.
 #[no_mangle]
 pub extern "C" fn pokyandi_text(sheet: &[u8], text: &mut [u8]) -> u64
-    ensures answer { λ r. ⌜ r ≡ answerNumber (replyFor passed (sheetText (now (sheet .entry))) (length (now (text .entry)))) ⌝ }
-    ensures memory { λ _. ⌜ now (text .exit) ≡ bufferFor passed (sheetText (now (sheet .entry))) (now (text .entry)) ⌝ }
+    ensures answer { λ r. ⌜ r ≡ answerNumber (fill unchecked (sheetText (now (sheet .entry))) (now (text .entry)) .reply) ⌝ }
+    ensures memory { λ _. ⌜ now (text .exit) ≡ fill unchecked (sheetText (now (sheet .entry))) (now (text .entry)) .buffer ⌝ }
 {
     answer_number(station_report::report_sheet(sheet, &mut *text))
 }

@@ -1,18 +1,19 @@
 // The calls on a line that is given as numbers.
 ghost use mathlib.Core.Path.{_≡_};
-ghost use lib.ListN.{length};
-ghost use Rattle.refusals.specs.Filling.{fillReplyOf, replyFor, bufferFor};
-ghost use Rattle.line_numbers.specs.Numbers.{numbersOutcome};
+ghost use Rattle.refusals.specs.Filling.{fillReplyOf, fill};
+ghost use Rattle.line_numbers.specs.Numbers.{numbersChecks};
+ghost use Rattle.bits.specs.Bits.{Bytes};
 ghost use Rattle.packed_sheet.specs.Layout.{firstEdition};
-ghost use Rattle.packed_sheet.specs.Reading.{readOutcome};
+ghost use Rattle.packed_sheet.specs.Reading.{readChecks};
 ghost use Rattle.pokyandi.specs.Calls.{sheetNumbers, numbersSheet};
 use refusals::FillAnswer;
 use refusals::Verdict;
 
 // The line of a sheet at the front of `numbers`, or the reader's refusal.
 pub(crate) fn sheet_numbers(sheet: &[u8], numbers: &mut [u32]) -> FillAnswer
-    ensures { λ a. ⌜ fillReplyOf a ≡ replyFor (readOutcome firstEdition (now (sheet .entry))) (sheetNumbers (now (sheet .entry))) (length (now (numbers .entry))) ⌝ }
-    ensures { λ _. ⌜ now (numbers .exit) ≡ bufferFor (readOutcome firstEdition (now (sheet .entry))) (sheetNumbers (now (sheet .entry))) (now (numbers .entry)) ⌝ }
+    ensures { λ a. ⌜ fillReplyOf a ≡ fill (readChecks firstEdition (now (sheet .entry))) (sheetNumbers (now (sheet .entry))) (now (numbers .entry)) .reply ⌝ }
+    ensures { λ _. ⌜ now (numbers .exit) ≡ fill (readChecks firstEdition (now (sheet .entry))) (sheetNumbers (now (sheet .entry))) (now (numbers .entry)) .buffer ⌝ }
+    ensures { λ _. ⌜ Bytes (now (sheet .entry)) ⌝ }
 {
     let read = sheet::read(sheet);
     let verdict = read.verdict;
@@ -24,8 +25,8 @@ pub(crate) fn sheet_numbers(sheet: &[u8], numbers: &mut [u32]) -> FillAnswer
 
 // The sheet of the line that the numbers spell, at the front of `bytes`, or the first refusal.
 pub(crate) fn write_numbers(numbers: &[u32], bytes: &mut [u8]) -> FillAnswer
-    ensures { λ a. ⌜ fillReplyOf a ≡ replyFor (numbersOutcome (now (numbers .entry))) (numbersSheet (now (numbers .entry))) (length (now (bytes .entry))) ⌝ }
-    ensures { λ _. ⌜ now (bytes .exit) ≡ bufferFor (numbersOutcome (now (numbers .entry))) (numbersSheet (now (numbers .entry))) (now (bytes .entry)) ⌝ }
+    ensures { λ a. ⌜ fillReplyOf a ≡ fill (numbersChecks (now (numbers .entry))) (numbersSheet (now (numbers .entry))) (now (bytes .entry)) .reply ⌝ }
+    ensures { λ _. ⌜ now (bytes .exit) ≡ fill (numbersChecks (now (numbers .entry))) (numbersSheet (now (numbers .entry))) (now (bytes .entry)) .buffer ⌝ }
 {
     let verdict = line_numbers::check_count(numbers);
     match verdict {

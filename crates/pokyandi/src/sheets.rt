@@ -1,18 +1,17 @@
 // The calls on a sheet: the reader, then the calculator or the writer.
 ghost use mathlib.Core.Path.{_≡_};
-ghost use lib.ListN.{length};
-ghost use Rattle.refusals.specs.Filling.{fillReplyOf, replyFor, bufferFor};
+ghost use Rattle.refusals.specs.Filling.{fillReplyOf, fill};
 ghost use Rattle.packed_sheet.specs.Layout.{firstEdition};
-ghost use Rattle.packed_sheet.specs.Reading.{readOutcome};
-ghost use Rattle.station_report.specs.Report.{sheetOutcome};
-ghost use Rattle.pokyandi.specs.Calls.{sheetStations, rewritten};
+ghost use Rattle.packed_sheet.specs.Reading.{readChecks};
+ghost use Rattle.station_report.specs.Report.{sheetChecks};
+ghost use Rattle.pokyandi.specs.Calls.{sheetStations};
 use refusals::FillAnswer;
 use refusals::Verdict;
 
 // The stations of a sheet at the front of `row`, or the first refusal of reader and calculator.
 pub(crate) fn sheet_stations(sheet: &[u8], row: &mut [u64]) -> FillAnswer
-    ensures { λ a. ⌜ fillReplyOf a ≡ replyFor (sheetOutcome (now (sheet .entry))) (sheetStations (now (sheet .entry))) (length (now (row .entry))) ⌝ }
-    ensures { λ _. ⌜ now (row .exit) ≡ bufferFor (sheetOutcome (now (sheet .entry))) (sheetStations (now (sheet .entry))) (now (row .entry)) ⌝ }
+    ensures { λ a. ⌜ fillReplyOf a ≡ fill (sheetChecks (now (sheet .entry))) (sheetStations (now (sheet .entry))) (now (row .entry)) .reply ⌝ }
+    ensures { λ _. ⌜ now (row .exit) ≡ fill (sheetChecks (now (sheet .entry))) (sheetStations (now (sheet .entry))) (now (row .entry)) .buffer ⌝ }
 {
     let read = sheet::read(sheet);
     let verdict = read.verdict;
@@ -24,8 +23,8 @@ pub(crate) fn sheet_stations(sheet: &[u8], row: &mut [u64]) -> FillAnswer
 
 // A sheet read and written again at the front of `bytes`, or the reader's refusal.
 pub(crate) fn rewrite_sheet(sheet: &[u8], bytes: &mut [u8]) -> FillAnswer
-    ensures { λ a. ⌜ fillReplyOf a ≡ replyFor (readOutcome firstEdition (now (sheet .entry))) (rewritten (now (sheet .entry))) (length (now (bytes .entry))) ⌝ }
-    ensures { λ _. ⌜ now (bytes .exit) ≡ bufferFor (readOutcome firstEdition (now (sheet .entry))) (rewritten (now (sheet .entry))) (now (bytes .entry)) ⌝ }
+    ensures { λ a. ⌜ fillReplyOf a ≡ fill (readChecks firstEdition (now (sheet .entry))) (now (sheet .entry)) (now (bytes .entry)) .reply ⌝ }
+    ensures { λ _. ⌜ now (bytes .exit) ≡ fill (readChecks firstEdition (now (sheet .entry))) (now (sheet .entry)) (now (bytes .entry)) .buffer ⌝ }
 {
     let read = sheet::read(sheet);
     let verdict = read.verdict;

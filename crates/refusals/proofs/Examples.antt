@@ -1,19 +1,21 @@
 -- Replies and buffers of a call that writes 1 and 2, by computation. Assumes nothing.
 use mathlib.Core.Path.{_≡_, refl}
+use mathlib.Core.Bool.{false}
 use mathlib.Core.List.{[], _∷_}
-use Rattle.refusals.specs.Outcomes.{passed, refused}
-use Rattle.refusals.specs.Filling.{filled, unfilled, withRoom, replyFor, bufferFor}
+use Prim.Native.Nat.{ℕ}
+use Rattle.refusals.specs.Order.{unchecked, check}
+use Rattle.refusals.specs.Filling.{filled, unfilled, withRoom, fill}
 
 pub record Examples : Type 0 where
-  pub exact : replyFor passed (1 ∷ 2 ∷ []) 2 ≡ filled 2
-  pub too-small : replyFor passed (1 ∷ 2 ∷ []) 1 ≡ unfilled 16 0
-  pub sixteen-last : replyFor (refused 14 0) (1 ∷ 2 ∷ []) 1 ≡ unfilled 14 0
-  pub remainder : bufferFor passed (1 ∷ 2 ∷ []) (7 ∷ 8 ∷ 9 ∷ []) ≡ 1 ∷ 2 ∷ 9 ∷ []
-  pub as-lent : bufferFor passed (1 ∷ 2 ∷ []) (7 ∷ []) ≡ 7 ∷ []
-  pub after-a-refusal : bufferFor (refused 14 0) (1 ∷ 2 ∷ []) (7 ∷ 8 ∷ 9 ∷ []) ≡ 7 ∷ 8 ∷ 9 ∷ []
+  pub exact : fill {A = ℕ} unchecked (1 ∷ 2 ∷ []) (7 ∷ 8 ∷ []) .reply ≡ filled 2
+  pub too-small : fill {A = ℕ} unchecked (1 ∷ 2 ∷ []) (7 ∷ []) .reply ≡ unfilled 16 0
+  pub sixteen-last : fill {A = ℕ} (check false 14 3) (1 ∷ 2 ∷ []) (7 ∷ []) .reply ≡ unfilled 14 3
+  pub remainder : fill {A = ℕ} unchecked (1 ∷ 2 ∷ []) (7 ∷ 8 ∷ 9 ∷ []) .buffer ≡ 1 ∷ 2 ∷ 9 ∷ []
+  pub as-lent : fill {A = ℕ} unchecked (1 ∷ 2 ∷ []) (7 ∷ []) .buffer ≡ 7 ∷ []
+  pub after-a-refusal : fill {A = ℕ} (check false 14 3) (1 ∷ 2 ∷ []) (7 ∷ 8 ∷ 9 ∷ []) .buffer ≡ 7 ∷ 8 ∷ 9 ∷ []
 
 pub examples : Examples
-unfolding withRoom replyFor bufferFor
+unfolding withRoom fill
 examples =
     record {
       exact = refl;

@@ -5,51 +5,42 @@ use Prim.Native.Nat.{ℕ, _≤_, _<_}
 use lib.Dec.{leb}
 use lib.ListN.{length, drop}
 use borrow.Author.Tests.{le-leb, lt-leb}
-use Rattle.refusals.specs.declared.Refusal.{Refusal}
-use Rattle.refusals.specs.declared.Verdict.{Verdict}
-use Rattle.refusals.specs.declared.Verdict.the-variants.{Refused}
-use Rattle.refusals.specs.Table.{numberOf, placeOf}
-use Rattle.refusals.specs.Outcomes.{Outcome, passed, refused, outcomeOf, need, _▹_}
-use Rattle.refusals.specs.Filling.{filled, unfilled, countAfter, bufferAfter, withRoom, replyFor, bufferFor}
-use Rattle.refusals.proofs.Joining.{refused-first}
+use Rattle.refusals.specs.Outcomes.{passed, refused, need, _▹_}
+use Rattle.refusals.specs.Order.{Checks, outcome}
+use Rattle.refusals.specs.Filling.{FillReply, filled, unfilled, countAfter, bufferAfter, withRoom, fill}
 
-module _ (checks : Outcome) (content buffer : List ℕ) (count : ℕ) where
-  -- The checks, then 16.
-  abbrev all : Outcome
-  all = checks ▹ need (leb count (length buffer)) 16 0
-
-  pub refused-by-checks : (v : Verdict) {r : Refusal} → outcomeOf v ≡ checks → v ≡ Refused r
-      → (unfilled (numberOf r) (placeOf r) ≡ countAfter all count) × (buffer ≡ bufferAfter all content buffer)
-  refused-by-checks v h e =
-      let o = sym (ap outcomeOf e) ∙ refused-first v checks (need (leb count (length buffer)) 16 0) e h in
-      (ap (λ (o : Outcome). countAfter o count) o, ap (λ (o : Outcome). bufferAfter o content buffer) o)
-
-  pub too-small : checks ≡ passed → length buffer < count
-      → (unfilled 16 0 ≡ countAfter all count) × (buffer ≡ bufferAfter all content buffer)
-  too-small e h = rw (e, lt-leb count (length buffer) h) (refl, refl)
-
-  pub filled-whole : {after : List ℕ} → checks ≡ passed → length content ≡ count → count ≤ length buffer → after ≡ content ++ drop count buffer
-      → (filled count ≡ countAfter all count) × (after ≡ bufferAfter all content buffer)
-  filled-whole e size h a =
-      rw (e, le-leb count (length buffer) h) (refl, a ∙ ap (λ (n : ℕ). content ++ drop n buffer) (sym size))
-
--- ---- the same of `replyFor` and `bufferFor`, whose count is the content's length
-
-module _ (checks : Outcome) (content buffer : List ℕ) where
+module _ {A : Type 0} (checks : Checks) (content lent : List A) where
   -- Checks that refuse: their refusal, and the buffer as it was.
-  pub refused-reply : {n p : ℕ} → checks ≡ refused n p
-      → (unfilled n p ≡ replyFor checks content (length buffer)) × (buffer ≡ bufferFor checks content buffer)
-  unfolding replyFor bufferFor withRoom
-  refused-reply e = rw e (refl, refl)
+  pub refused-fill : {n p : ℕ} → outcome checks ≡ refused n p
+      → (unfilled n p ≡ fill checks content lent .reply) × (lent ≡ fill checks content lent .buffer)
+  unfolding fill withRoom
+  refused-fill e = rw e (refl, refl)
 
-  pub small-reply : {count : ℕ} → checks ≡ passed → length content ≡ count → length buffer < count
-      → (unfilled 16 0 ≡ replyFor checks content (length buffer)) × (buffer ≡ bufferFor checks content buffer)
-  unfolding replyFor bufferFor withRoom
-  small-reply e size h = too-small checks content buffer (length content) e (subst (λ (n : ℕ). length buffer < n) (sym size) h)
+  -- Checks that pass, and a content of known length: 16 where the buffer is shorter,
+  pub small-fill : {count : ℕ} → outcome checks ≡ passed → length content ≡ count → length lent < count
+      → (unfilled 16 0 ≡ fill checks content lent .reply) × (lent ≡ fill checks content lent .buffer)
+  unfolding fill withRoom
+  small-fill e size h = rw (e, lt-leb (length content) (length lent) (subst (λ (n : ℕ). length lent < n) (sym size) h)) (refl, refl)
 
-  pub filled-reply : {count : ℕ} {after : List ℕ} → checks ≡ passed → length content ≡ count → count ≤ length buffer → after ≡ content ++ drop count buffer
-      → (filled count ≡ replyFor checks content (length buffer)) × (after ≡ bufferFor checks content buffer)
-  unfolding replyFor bufferFor withRoom
-  filled-reply e size h a =
-      let all = filled-whole checks content buffer (length content) e refl (subst (λ (n : ℕ). n ≤ length buffer) (sym size) h) (a ∙ ap (λ (n : ℕ). content ++ drop n buffer) (sym size)) in
-      (ap filled (sym size) ∙ all .0, all .1)
+  -- else the count, and the content at the front.
+  pub whole-fill : {count : ℕ} {after : List A} → outcome checks ≡ passed → length content ≡ count → count ≤ length lent → after ≡ content ++ drop count lent
+      → (filled count ≡ fill checks content lent .reply) × (after ≡ fill checks content lent .buffer)
+  unfolding fill withRoom
+  whole-fill e size h a =
+      rw (e, le-leb (length content) (length lent) (subst (λ (n : ℕ). n ≤ length lent) (sym size) h))
+      (ap filled (sym size), a ∙ ap (λ (n : ℕ). content ++ drop n lent) (sym size))
+
+-- Checks that say the same and the same content fill alike,
+pub same-fill : {A : Type 0} (c d : Checks) (u v lent : List A) → outcome c ≡ outcome d → u ≡ v → fill c u lent ≡ fill d v lent
+unfolding fill withRoom
+same-fill c d u v lent e q =
+    let all : outcome (withRoom c u lent) ≡ outcome (withRoom d v lent) = λ j. e j ▹ need (leb (length (q j)) (length lent)) 16 0 in
+    λ j. record { reply = countAfter (all j) (length (q j)); buffer = bufferAfter (all j) (q j) lent }
+
+-- so that what was answered for the ones was answered for the others.
+pub refill : {A : Type 0} (c d : Checks) (u v lent : List A) {reply : FillReply} {after : List A} → outcome c ≡ outcome d → u ≡ v
+    → (reply ≡ fill c u lent .reply) × (after ≡ fill c u lent .buffer)
+    → (reply ≡ fill d v lent .reply) × (after ≡ fill d v lent .buffer)
+refill c d u v lent e q told =
+    let same = same-fill c d u v lent e q in
+    (told .0 ∙ (λ j. same j .reply), told .1 ∙ (λ j. same j .buffer))

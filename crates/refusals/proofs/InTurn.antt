@@ -6,59 +6,68 @@ use native.Mathlib.Nat.{add-zero, add-suc}
 use native.Mathlib.Numerals.{add-one}
 use native.Mathlib.Decide.{decLt}
 use native.Mathlib.Omega.{arith}
-use Rattle.refusals.specs.Outcomes.{Outcome, passed, refused, firstOf}
+use Rattle.refusals.specs.Outcomes.{passed, refused, firstOf}
+use Rattle.refusals.specs.Order.{Checks, inTurn, outcome}
 use Rattle.refusals.proofs.Joining.{passed-left, passed-right, never, refused-by, join}
 
-module _ (check : ℕ → Outcome) where
+module _ (each : ℕ → Checks) where
   -- One check more that passes.
-  pub one-more : (i : ℕ) → firstOf check i ≡ passed → check i ≡ passed → firstOf check (i + 1) ≡ passed
+  pub one-more : (i : ℕ) → outcome (inTurn each i) ≡ passed → outcome (each i) ≡ passed → outcome (inTurn each (i + 1)) ≡ passed
   unfolding firstOf
-  one-more i p q = ap (firstOf check) (add-one i) ∙ join p q
+  one-more i p q = ap (λ (n : ℕ). outcome (inTurn each n)) (add-one i) ∙ join p q
 
-  stays : (i j : ℕ) {n p : ℕ} → firstOf check i ≡ refused n p → firstOf check (i + j) ≡ refused n p
+  stays : (i j : ℕ) {n p : ℕ} → outcome (inTurn each i) ≡ refused n p → outcome (inTurn each (i + j)) ≡ refused n p
   unfolding firstOf
-  stays i zero e = ap (firstOf check) (add-zero i) ∙ e
-  stays i (suc j) e = ap (firstOf check) (add-suc i j) ∙ join (stays i j e) refl
+  stays i zero e = ap (λ (n : ℕ). outcome (inTurn each n)) (add-zero i) ∙ e
+  stays i (suc j) e = ap (λ (n : ℕ). outcome (inTurn each n)) (add-suc i j) ∙ join (stays i j e) refl
 
   -- The first check that does not pass gives the refusal.
-  pub first-refused : (i count : ℕ) {n p : ℕ} → i < count → firstOf check i ≡ passed → check i ≡ refused n p → firstOf check count ≡ refused n p
+  pub first-refused : (i count : ℕ) {n p : ℕ} → i < count → outcome (inTurn each i) ≡ passed → outcome (each i) ≡ refused n p
+      → outcome (inTurn each count) ≡ refused n p
   unfolding firstOf
   first-refused i count h e q =
       let all : suc i + (count - suc i) ≡ count = omega arith in
-      sym (ap (firstOf check) all) ∙ stays (suc i) (count - suc i) (join e q)
+      sym (ap (λ (n : ℕ). outcome (inTurn each n)) all) ∙ stays (suc i) (count - suc i) (join e q)
 
-  -- Where all pass, each does.
-  pub each-passes : (count : ℕ) → firstOf check count ≡ passed → (i : ℕ) → i < count → check i ≡ passed
+  -- Where each passes, all do,
+  pub all-pass : (count : ℕ) → ((i : ℕ) → i < count → outcome (each i) ≡ passed) → outcome (inTurn each count) ≡ passed
+  unfolding firstOf
+  all-pass zero e = refl
+  all-pass (suc count) e = join (all-pass count (λ i h. e i (omega arith))) (e count (omega arith))
+
+  -- and where all pass, each does.
+  pub each-passes : (count : ℕ) → outcome (inTurn each count) ≡ passed → (i : ℕ) → i < count → outcome (each i) ≡ passed
   unfolding firstOf
   each-passes zero e i h = absurd (omega arith)
   each-passes (suc count) e i h =
-      go (decLt i count) (each-passes count (passed-left (firstOf check count) _ e) i)
+      go (decLt i count) (each-passes count (passed-left (outcome (inTurn each count)) _ e) i)
     where
-      go : Dec (i < count) → (i < count → check i ≡ passed) → check i ≡ passed
+      go : Dec (i < count) → (i < count → outcome (each i) ≡ passed) → outcome (each i) ≡ passed
       go (yes k) earlier = earlier k
       go (no k) earlier =
           let same : i ≡ count = omega arith in
-          ap check same ∙ passed-right (firstOf check count) _ e
+          ap (λ (n : ℕ). outcome (each n)) same ∙ passed-right (outcome (inTurn each count)) _ e
 
   -- A refusal comes from one of the checks, and all before that one pass.
   pub record FirstRefusal (count n p : ℕ) : Type 0 where
     pub index : ℕ
     pub below : index < count
-    pub before : firstOf check index ≡ passed
-    pub here : check index ≡ refused n p
+    pub before : outcome (inTurn each index) ≡ passed
+    pub here : outcome (each index) ≡ refused n p
 
-  pub find-first : (count : ℕ) {n p : ℕ} → firstOf check count ≡ refused n p → FirstRefusal count n p
+  pub find-first : (count : ℕ) {n p : ℕ} → outcome (inTurn each count) ≡ refused n p → FirstRefusal count n p
   unfolding firstOf
   find-first zero {n} {p} e = never n p e
   find-first (suc count) {n} {p} e =
       ⊎-elim (λ a. later (find-first count a)) (λ b. record { index = count; below = omega arith; before = b .0; here = b .1 })
-      (refused-by (firstOf check count) (check count) e)
+      (refused-by (outcome (inTurn each count)) (outcome (each count)) e)
     where
       later : FirstRefusal count n p → FirstRefusal (suc count) n p
       later f = record { index = f .index; below = omega (arith, f .below); before = f .before; here = f .here }
 
 -- Checks that agree, in turn.
-pub alike-in-turn : (f g : ℕ → Outcome) (count : ℕ) → ((i : ℕ) → i < count → f i ≡ g i) → firstOf f count ≡ firstOf g count
+pub alike-in-turn : (f g : ℕ → Checks) (count : ℕ) → ((i : ℕ) → i < count → outcome (f i) ≡ outcome (g i))
+    → outcome (inTurn f count) ≡ outcome (inTurn g count)
 unfolding firstOf
 alike-in-turn f g zero e = refl
 alike-in-turn f g (suc i) e = join (alike-in-turn f g i (λ k h. e k (omega arith))) (e i (omega arith))

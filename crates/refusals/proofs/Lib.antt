@@ -1,6 +1,7 @@
 -- Laws of outcomes.
 pub mod Joining
 pub mod InTurn
+pub mod InOrder
 pub mod Numbers
 pub mod Filled
 pub mod FillWays

@@ -5,6 +5,7 @@ use mathlib.Core.Bool.{Bool}
 use Prim.Native.Nat.{ℕ, zero, suc, _≤_, _<_}
 use native.Mathlib.Omega.{arith}
 use Rattle.refusals.specs.Outcomes.{Outcome, passed, refused, need, _▹_, firstOf}
+use Rattle.refusals.specs.Order.{Checks, inTurn, outcome}
 use Rattle.refusals.proofs.Joining.{never, refused-by, need-refused}
 
 -- A refusal has a number from `least` to `most`, and a place up to `far`.
@@ -31,12 +32,12 @@ module _ {least most far : ℕ} where
   pub joined-numbers : (a b : Outcome) → Refuses least most far a → Refuses least most far b → Refuses least most far (a ▹ b)
   joined-numbers a b f g = numbers-after a b f (λ e. g)
 
-  pub numbers-in-turn : (check : ℕ → Outcome) (count : ℕ) → ((i : ℕ) → i < count → Refuses least most far (check i))
-      → Refuses least most far (firstOf check count)
+  pub numbers-in-turn : (each : ℕ → Checks) (count : ℕ) → ((i : ℕ) → i < count → Refuses least most far (outcome (each i)))
+      → Refuses least most far (outcome (inTurn each count))
   unfolding firstOf
-  numbers-in-turn check zero each = record { number = λ n p e. never n p e; place = λ n p e. never n p e }
-  numbers-in-turn check (suc i) each =
-      joined-numbers (firstOf check i) (check i) (numbers-in-turn check i (λ k h. each k (omega arith))) (each i (omega arith))
+  numbers-in-turn each zero all = record { number = λ n p e. never n p e; place = λ n p e. never n p e }
+  numbers-in-turn each (suc i) all =
+      joined-numbers (outcome (inTurn each i)) (outcome (each i)) (numbers-in-turn each i (λ k h. all k (omega arith))) (all i (omega arith))
 
 -- Wider limits.
 pub wider : (o : Outcome) {least most far least′ most′ far′ : ℕ} → Refuses least most far o → least′ ≤ least → most ≤ most′ → far ≤ far′

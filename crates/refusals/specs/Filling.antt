@@ -6,7 +6,8 @@ use lib.ListN.{length, drop}
 use Rattle.refusals.specs.declared.FillAnswer.{FillAnswer}
 use Rattle.refusals.specs.declared.FillAnswer.the-variants.{Count, Refused}
 use Rattle.refusals.specs.Table.{numberOf, placeOf}
-use Rattle.refusals.specs.Outcomes.{Outcome, passed, refused, need, _▹_}
+use Rattle.refusals.specs.Outcomes.{Outcome, passed, refused}
+use Rattle.refusals.specs.Order.{Checks, check, _⨾_, outcome}
 
 -- What such a call says: the count of what it wrote, or a refusal's number and place.
 pub data FillReply : Type 0 where
@@ -24,18 +25,23 @@ countAfter passed count = filled count
 countAfter (refused number place) count = unfilled number place
 
 -- The content at the front and "the rest untouched" where the checks pass, else "lent memory is untouched".
-abbrev pub bufferAfter : Outcome → List ℕ → List ℕ → List ℕ
-bufferAfter passed content buffer = content ++ drop (length content) buffer
-bufferAfter (refused number place) content buffer = buffer
+abbrev pub bufferAfter : {A : Type 0} → Outcome → List A → List A → List A
+bufferAfter passed content lent = content ++ drop (length content) lent
+bufferAfter (refused number place) content lent = lent
 
 -- A call's checks, then 16: "lent bytes or row too few" for the content.
-unfoldable pub withRoom : Outcome → List ℕ → ℕ → Outcome
-withRoom checks content room = checks ▹ need (leb (length content) room) 16 0
+unfoldable pub withRoom : {A : Type 0} → Checks → List A → List A → Checks
+withRoom checks content lent = checks ⨾ check (leb (length content) (length lent)) 16 0
 
--- What a call says that makes these checks and writes this content into a buffer of `room` entries: the count, or the first refusal.
-unfoldable pub replyFor : Outcome → List ℕ → ℕ → FillReply
-replyFor checks content room = countAfter (withRoom checks content room) (length content)
+-- What a call that makes these checks and writes this content leaves of the buffer that it was lent: its reply, the content's length or the
+-- first refusal, and what the buffer then holds.
+pub record Fill (A : Type 0) : Type 0 where
+  pub reply : FillReply
+  pub buffer : List A
 
--- What the buffer then holds: the content at its front and the rest untouched; after a refusal, what it held.
-unfoldable pub bufferFor : Outcome → List ℕ → List ℕ → List ℕ
-bufferFor checks content buffer = bufferAfter (withRoom checks content (length buffer)) content buffer
+unfoldable pub fill : {A : Type 0} → Checks → List A → List A → Fill A
+fill checks content lent =
+    record {
+      reply = countAfter (outcome (withRoom checks content lent)) (length content);
+      buffer = bufferAfter (outcome (withRoom checks content lent)) content lent;
+    }

@@ -1,4 +1,5 @@
 -- What the contracts of `refusals` cite.
 pub mod Table
 pub mod Outcomes
+pub mod Order
 pub mod Filling

@@ -2,9 +2,10 @@
 use mathlib.Core.Path.{_≡_, refl}
 use mathlib.Core.List.{[], _∷_, _++_}
 use lib.ListN.{replicate}
-use Rattle.refusals.specs.Filling.{filled, unfilled}
+use Rattle.refusals.specs.Order.{unchecked}
+use Rattle.refusals.specs.Filling.{filled, unfilled, withRoom, fill}
 use Rattle.report.specs.Numbers.{ascii, digitsWithin, decimal, metres}
-use Rattle.report.specs.Text.{words, heading, turnName, pointName, pointCurve, pointLine, pointLines, stationList, refusalLine, textOutcome, textAnswer, textBytes}
+use Rattle.report.specs.Text.{words, heading, turnName, pointName, pointCurve, pointLine, pointLines, stationList, refusalLine}
 
 pub record Examples : Type 0 where
   pub case-1 : stationList (319010722 ∷ 359010722 ∷ 620649189 ∷ 660649189 ∷ 879659911 ∷ [])
@@ -17,13 +18,13 @@ pub record Examples : Type 0 where
   pub refusal : refusalLine 15 0 ≡ ascii "REFUSED 15 0\n"
   pub last-place : refusalLine 8 64 ≡ ascii "REFUSED 8 64\n"
   -- ---- the caller's bytes
-  pub too-small : textAnswer (refusalLine 15 0) 12 ≡ unfilled 16 0
-  pub as-lent : textBytes (refusalLine 15 0) (replicate 12 7) ≡ replicate 12 7
-  pub exact : textAnswer (refusalLine 15 0) 13 ≡ filled 13
-  pub remainder : textBytes (refusalLine 1 0) (replicate 14 7) ≡ ascii "REFUSED 1 0\n" ++ (7 ∷ 7 ∷ [])
+  pub too-small : fill unchecked (refusalLine 15 0) (replicate 12 7) .reply ≡ unfilled 16 0
+  pub as-lent : fill unchecked (refusalLine 15 0) (replicate 12 7) .buffer ≡ replicate 12 7
+  pub exact : fill unchecked (refusalLine 15 0) (replicate 13 7) .reply ≡ filled 13
+  pub remainder : fill unchecked (refusalLine 1 0) (replicate 14 7) .buffer ≡ ascii "REFUSED 1 0\n" ++ (7 ∷ 7 ∷ [])
 
 pub examples : Examples
-unfolding ascii digitsWithin decimal metres words heading turnName pointName pointCurve pointLine pointLines stationList refusalLine textOutcome textAnswer textBytes
+unfolding ascii digitsWithin decimal metres words heading turnName pointName pointCurve pointLine pointLines stationList refusalLine withRoom fill
 examples =
     record {
       case-1 = refl;

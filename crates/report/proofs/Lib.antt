@@ -4,7 +4,6 @@ pub mod Pieces
 pub mod Names
 pub mod Lengths
 pub mod WaysOut
-pub mod Replies
 pub mod Short
 pub mod Examples
 pub mod ReadBack

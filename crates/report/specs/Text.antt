@@ -2,10 +2,8 @@
 use mathlib.Core.Bool.{cond}
 use mathlib.Core.List.{List, [], _++_}
 use Prim.Native.Nat.{ℕ, zero, suc, _/_, _%_}
-use lib.Dec.{eqb, leb}
+use lib.Dec.{eqb}
 use lib.ListN.{length, getD}
-use Rattle.refusals.specs.Outcomes.{Outcome, need}
-use Rattle.refusals.specs.Filling.{FillReply, countAfter, bufferAfter}
 use Rattle.report.specs.Numbers.{ascii, decimal, metres}
 
 -- Three words, "one space between", and the end of the line.
@@ -47,15 +45,3 @@ stationList row = heading ++ pointLines row (length row)
 -- "`REFUSED`, number, place, one space between"
 unfoldable pub refusalLine : (number place : ℕ) → List ℕ
 refusalLine number place = words (ascii "REFUSED") (decimal number) (decimal place)
-
--- 16: "lent bytes .. too few"
-unfoldable pub textOutcome : List ℕ → ℕ → Outcome
-textOutcome text room = need (leb (length text) room) 16 0
-
--- What is answered for a text and `room` lent bytes: the text's length, or the refusal.
-unfoldable pub textAnswer : List ℕ → ℕ → FillReply
-textAnswer text room = countAfter (textOutcome text room) (length text)
-
--- What the lent bytes then hold: the text at the front and the rest untouched; after a refusal, what they held.
-unfoldable pub textBytes : List ℕ → List ℕ → List ℕ
-textBytes text bytes = bufferAfter (textOutcome text (length bytes)) text bytes

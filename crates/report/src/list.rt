@@ -4,9 +4,10 @@ ghost use mathlib.Core.List.{_++_};
 ghost use Prim.Native.Nat.{_+_, _≤_, _<_};
 ghost use lib.Dec.{leb};
 ghost use lib.ListN.{length};
-ghost use Rattle.refusals.specs.Filling.{fillReplyOf};
+ghost use Rattle.refusals.specs.Order.{unchecked};
+ghost use Rattle.refusals.specs.Filling.{fillReplyOf, fill};
 ghost use Rattle.report.specs.Numbers.{ascii};
-ghost use Rattle.report.specs.Text.{pointName, pointCurve, pointLine, stationList, textAnswer, textBytes};
+ghost use Rattle.report.specs.Text.{pointName, pointCurve, pointLine, stationList};
 ghost use Rattle.report.specs.Pieces.{Wrote};
 use crate::numbers::decimal_length;
 use crate::numbers::metres_length;
@@ -119,8 +120,8 @@ fn put_list(row: &[u64], text: &mut [u8]) -> usize
 // line, whose stations are in metres with six decimals. The last number of the row is the end, and those before it are TS, SC,
 // CS and ST of each curve. Answers the length of the text, or refusal 16; a refusal leaves `text` as it was.
 pub fn station_list(row: &[u64], text: &mut [u8]) -> FillAnswer
-    ensures answer { λ a. ⌜ fillReplyOf a ≡ textAnswer (stationList (now (row .entry))) (length (now (text .entry))) ⌝ }
-    ensures memory { λ _. ⌜ now (text .exit) ≡ textBytes (stationList (now (row .entry))) (now (text .entry)) ⌝ }
+    ensures answer { λ a. ⌜ fillReplyOf a ≡ fill unchecked (stationList (now (row .entry))) (now (text .entry)) .reply ⌝ }
+    ensures memory { λ _. ⌜ now (text .exit) ≡ fill unchecked (stationList (now (row .entry))) (now (text .entry)) .buffer ⌝ }
 {
     if list_fits(row, text.len()) {
         let length = put_list(row, &mut *text);

@@ -3,8 +3,9 @@ ghost use mathlib.Core.Path.{_≡_};
 ghost use Prim.Native.Nat.{_+_, _≤_};
 ghost use lib.ListN.{length};
 ghost use Rattle.refusals.specs.Table.{numberOf, placeOf};
-ghost use Rattle.refusals.specs.Filling.{fillReplyOf};
-ghost use Rattle.report.specs.Text.{refusalLine, textAnswer, textBytes};
+ghost use Rattle.refusals.specs.Order.{unchecked};
+ghost use Rattle.refusals.specs.Filling.{fillReplyOf, fill};
+ghost use Rattle.report.specs.Text.{refusalLine};
 ghost use Rattle.report.specs.Pieces.{Wrote};
 use crate::numbers::decimal_length;
 use crate::numbers::put;
@@ -25,8 +26,8 @@ fn put_refusal(number: u64, place: u64, text: &mut [u8]) -> usize
 // A refusal as document 01's programs print it, at the front of `text`: `REFUSED`, number, place. Answers the length of the text,
 // or refusal 16; a refusal leaves `text` as it was.
 pub fn refusal_line(refusal: Refusal, text: &mut [u8]) -> FillAnswer
-    ensures answer { λ a. ⌜ fillReplyOf a ≡ textAnswer (refusalLine (numberOf refusal) (placeOf refusal)) (length (now (text .entry))) ⌝ }
-    ensures memory { λ _. ⌜ now (text .exit) ≡ textBytes (refusalLine (numberOf refusal) (placeOf refusal)) (now (text .entry)) ⌝ }
+    ensures answer { λ a. ⌜ fillReplyOf a ≡ fill unchecked (refusalLine (numberOf refusal) (placeOf refusal)) (now (text .entry)) .reply ⌝ }
+    ensures memory { λ _. ⌜ now (text .exit) ≡ fill unchecked (refusalLine (numberOf refusal) (placeOf refusal)) (now (text .entry)) .buffer ⌝ }
 {
     let number = refusal.number() as u64;
     let place = refusal.place() as u64;

@@ -10,10 +10,11 @@ use lib.ListN.{length, drop, getD}
 use lib.Pow.{pow-pos, pow-mono}
 use borrow.Author.Tests.{le-leb, eq-eqb}
 use Rattle.refusals.specs.Outcomes.{passed, need, _▹_}
+use Rattle.refusals.specs.Order.{outcome}
 use Rattle.refusals.proofs.Joining.{passed-left}
 use Rattle.line.specs.declared.Curve.{Curve}
 use Rattle.line.specs.declared.Line.{Line}
-use Rattle.line.specs.Checks.{distanceAt, blankCurve, curveAt, headOutcome, lineOutcome}
+use Rattle.line.specs.Checks.{distanceAt, blankCurve, curveAt, headChecks, lineChecks}
 use Rattle.line.specs.Entries.{entries, cleared}
 use Rattle.line.specs.Ranges.{LineInRange}
 use Rattle.line.proofs.Entries.{entries-same}
@@ -22,7 +23,7 @@ use Rattle.line.proofs.Sides.{side-of-bit}
 use Rattle.line.proofs.Unused.{unused-ignored, cleared-alike}
 use Rattle.bits.specs.Bits.{valueOf, bitsAt, valuesAt, total, Fit}
 use Rattle.packed_sheet.specs.Layout.{Edition, Holds, headWidths, distanceWidth, entryWidths, entryAt, bitCount, byteCount, fillWidth}
-use Rattle.packed_sheet.specs.Reading.{headFrom, curveFrom, headOf, distanceOf, curveOf, lineOf, sizeOutcome, frameOutcome, readOutcome}
+use Rattle.packed_sheet.specs.Reading.{headFrom, curveFrom, headOf, distanceOf, curveOf, lineOf, sizeChecks, frameChecks, readChecks}
 use Rattle.packed_sheet.specs.Writing.{headValues, curveValues, entryValues, entriesAfter, numberTo, sheetNumber, sheetOf}
 use Rattle.bits.proofs.Bytes.{value-bytes}
 use Rattle.bits.proofs.Fields.{upTo, all-bits, packed-read, packed-lt}
@@ -133,29 +134,29 @@ module _ (E : Edition) (holds : Holds E) (line : Line) (ok : LineInRange line) w
       (λ j. lineWith (head-again j) (entries 65 (suc (head-again j .count)) (distanceOf E sheet) 0) (entries 64 (head-again j .count) (curveOf E sheet) blankCurve))
       ∙ (λ j. lineWith (headFrom (headValues E line)) (distances j) (curves j))
 
-  whole-again : sizeOutcome E sheet (line .count) ≡ passed
-  unfolding sizeOutcome valuesAt
+  whole-again : outcome (sizeChecks E sheet (line .count)) ≡ passed
+  unfolding sizeChecks valuesAt
   whole-again =
       let size = sheet-length E line in
       let bytes = byteCount E (line .count) in
       let fill : bitsAt sheet (bitCount E (line .count)) (fillWidth E (line .count)) ≡ 0 = ap (λ (l : List ℕ). getD l 1 0) (last-again .1) in
       rw (le-leb bytes (length sheet) (omega (arith, size)), le-leb (length sheet) bytes (omega (arith, size)), fill)
 
-  frame-again : frameOutcome E sheet ≡ passed
-  unfolding frameOutcome lineOutcome
+  frame-again : outcome (frameChecks E sheet) ≡ passed
+  unfolding frameChecks lineChecks
   frame-again =
       let long = le-leb 7 (length sheet) (omega (arith, sheet-length E line, start-wide E holds)) in
-      let fields = passed-left (headOutcome (line .count) (line .speed) (line .crossfall) (line .start)) _ (line-passes line ok) in
+      let fields = passed-left (outcome (headChecks (line .count) (line .speed) (line .crossfall) (line .start))) _ (line-passes line ok) in
       (λ j.
       need (long j) 1 0
       ▹ need (eqb (head-again j .edition) (E .number)) 2 0
-      ▹ headOutcome (head-again j .count) (head-again j .speed) (head-again j .crossfall) (head-again j .start)
-      ▹ sizeOutcome E sheet (head-again j .count))
+      ▹ outcome (headChecks (head-again j .count) (head-again j .speed) (head-again j .crossfall) (head-again j .start))
+      ▹ outcome (sizeChecks E sheet (head-again j .count)))
       ∙ rw (eq-eqb (E .number) (E .number) refl, fields) whole-again
 
-  pub read-again : readOutcome E sheet ≡ passed
+  pub read-again : outcome (readChecks E sheet) ≡ passed
   read-again =
       sym (line-decides E sheet frame-again)
-      ∙ ap lineOutcome line-again
+      ∙ ap (λ (l : Line). outcome (lineChecks l)) line-again
       ∙ unused-ignored (cleared line) line (cleared-alike line (ok .few))
       ∙ line-passes line ok

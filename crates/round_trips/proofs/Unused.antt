@@ -1,19 +1,17 @@
 -- The writer ignores unused entries: a line and the same with its unused entries zero have one sheet, one answer and one content of the bytes.
 -- Assumes nothing.
-use mathlib.Core.Path.{_≡_, refl, ap}
+use mathlib.Core.Path.{_≡_, refl}
 use mathlib.Core.List.{List, [], _∷_}
 use Prim.Native.Nat.{ℕ, zero, suc, _≤_}
 use native.Mathlib.Omega.{arith}
-use lib.ListN.{length}
-use Rattle.refusals.specs.Outcomes.{Outcome}
-use Rattle.refusals.specs.Filling.{countAfter, bufferAfter}
-use Rattle.refusals.proofs.Joining.{join}
+use Rattle.refusals.proofs.FillWays.{same-fill}
 use Rattle.line.specs.declared.Line.{Line}
+use Rattle.line.specs.Checks.{lineChecks}
 use Rattle.line.specs.Entries.{cleared}
 use Rattle.line.proofs.Unused.{unused-ignored, cleared-distance, cleared-curve, cleared-alike}
 use Rattle.bits.specs.Bits.{packed, bytesOf}
 use Rattle.packed_sheet.specs.Layout.{Edition, headWidths, distanceWidth, entryWidths, byteCount, fillWidth}
-use Rattle.packed_sheet.specs.Writing.{headValues, curveValues, entriesAfter, numberTo, sheetNumber, sheetOf, writeOutcome, writeAnswer, writeBytes}
+use Rattle.packed_sheet.specs.Writing.{headValues, curveValues, entriesAfter, numberTo, sheetNumber, sheetOf, sheetIn}
 
 module _ (E : Edition) (line : Line) (few : line .count ≤ 64) where
   same-entries : (i x : ℕ) → i ≤ line .count → entriesAfter (cleared line) i x ≡ entriesAfter line i x
@@ -31,14 +29,9 @@ module _ (E : Edition) (line : Line) (few : line .count ≤ 64) where
       bytesOf (byteCount E n)
       (packed (same-entries n head (omega arith) j) (distanceWidth ∷ fillWidth E n ∷ []) (cleared-distance line few n (omega arith) j ∷ 0 ∷ []))
 
-  same-outcome : (room : ℕ) → writeOutcome E (cleared line) room ≡ writeOutcome E line room
-  unfolding writeOutcome cleared
-  same-outcome room = join (unused-ignored (cleared line) line (cleared-alike line few)) refl
-
-  pub same-answer : (room : ℕ) → writeAnswer E (cleared line) room ≡ writeAnswer E line room
-  unfolding writeAnswer cleared
-  same-answer room = ap (λ (o : Outcome). countAfter o (byteCount E (line .count))) (same-outcome room)
-
-  pub same-bytes : (bytes : List ℕ) → writeBytes E (cleared line) bytes ≡ writeBytes E line bytes
-  unfolding writeBytes
-  same-bytes bytes = λ j. bufferAfter (same-outcome (length bytes) j) (same-sheet j) bytes
+  -- The same answer and the same bytes, whatever bytes are lent.
+  pub same-call : (bytes : List ℕ) → sheetIn E (cleared line) bytes ≡ sheetIn E line bytes
+  unfolding sheetIn
+  same-call bytes =
+      same-fill (lineChecks (cleared line)) (lineChecks line) (sheetOf E (cleared line)) (sheetOf E line) bytes
+      (unused-ignored (cleared line) line (cleared-alike line few)) same-sheet

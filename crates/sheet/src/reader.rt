@@ -3,9 +3,10 @@ ghost use mathlib.Core.Path.{_≡_};
 ghost use Prim.Native.Nat.{_+_, _/_, _<_, _≤_};
 ghost use lib.ListN.{length};
 ghost use Rattle.refusals.specs.Outcomes.{passed, outcomeOf};
-ghost use Rattle.bits.specs.Bits.{valuesAt};
+ghost use Rattle.refusals.specs.Order.{outcome};
+ghost use Rattle.bits.specs.Bits.{Bytes, valuesAt};
 ghost use Rattle.packed_sheet.specs.Layout.{firstEdition, curveWidths};
-ghost use Rattle.packed_sheet.specs.Reading.{headOf, curveFrom, sizeOutcome, frameOutcome, lineOf, readOutcome, readLine};
+ghost use Rattle.packed_sheet.specs.Reading.{headOf, curveFrom, sizeChecks, frameChecks, lineOf, readChecks, readLine};
 use crate::fields::bits_at;
 use crate::fields::last_bits;
 use crate::fields::long_bits_at;
@@ -59,7 +60,7 @@ fn read_head(sheet: &[u8]) -> Head
 // Refusals 1 and 7 of a sheet that says it has `n` curves.
 fn check_size(sheet: &[u8], n: usize) -> Verdict
     requires { ⌜ n < 128 ⌝ }
-    ensures { λ r. ⌜ outcomeOf r ≡ sizeOutcome firstEdition (now (sheet .entry)) n ⌝ }
+    ensures { λ r. ⌜ outcomeOf r ≡ outcome (sizeChecks firstEdition (now (sheet .entry)) n) ⌝ }
 {
     let bits = bit_count(n);
     let bytes = byte_count(n);
@@ -76,7 +77,7 @@ fn check_size(sheet: &[u8], n: usize) -> Verdict
 // The first of refusals 2 to 7.
 fn check_frame(sheet: &[u8], head: Head) -> Verdict
     requires { ⌜ (7 ≤ length (now sheet)) × (head ≡ headOf firstEdition (now sheet)) ⌝ }
-    ensures { λ r. ⌜ outcomeOf r ≡ frameOutcome firstEdition (now (sheet .entry)) ⌝ }
+    ensures { λ r. ⌜ outcomeOf r ≡ outcome (frameChecks firstEdition (now (sheet .entry))) ⌝ }
 {
     let edition = must(head.edition == 1, Refusal::Edition);
     let fields = check_head(head.count, head.speed, head.crossfall, head.start);
@@ -102,7 +103,7 @@ fn curve_at(sheet: &[u8], at: usize) -> Curve
 
 // The line of a sheet that passes 1 to 7.
 fn read_line(sheet: &[u8], head: Head) -> Line
-    requires { ⌜ (frameOutcome firstEdition (now sheet) ≡ passed) × (head ≡ headOf firstEdition (now sheet)) ⌝ }
+    requires { ⌜ (outcome (frameChecks firstEdition (now sheet)) ≡ passed) × (head ≡ headOf firstEdition (now sheet)) ⌝ }
     ensures { λ r. ⌜ r ≡ lineOf firstEdition (now (sheet .entry)) ⌝ }
 {
     let n = head.count;
@@ -123,10 +124,11 @@ fn read_line(sheet: &[u8], head: Head) -> Line
 }
 
 // The line of a sheet, its unused entries zero, or the first refusal in document 01's order: 1 (seven bytes), 2, 3, 4, 5, 6,
-// 1 (full length), 7, then 8 to 11 in sheet order. Any bytes are taken.
+// 1 (full length), 7, then 8 to 11 in sheet order. Any bytes are taken; that they are bytes is what the round trips ask for.
 pub fn read(sheet: &[u8]) -> ReadAnswer
-    ensures answer { λ r. ⌜ outcomeOf (r .verdict) ≡ readOutcome firstEdition (now (sheet .entry)) ⌝ }
+    ensures answer { λ r. ⌜ outcomeOf (r .verdict) ≡ outcome (readChecks firstEdition (now (sheet .entry))) ⌝ }
     ensures line { λ r. ⌜ r .line ≡ readLine firstEdition (now (sheet .entry)) ⌝ }
+    ensures bytes { λ _. ⌜ Bytes (now (sheet .entry)) ⌝ }
 {
     if sheet.len() < 7 {
         return ReadAnswer {

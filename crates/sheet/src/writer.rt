@@ -5,10 +5,11 @@ ghost use Prim.Native.Nat.{_+_, _*_, _<_, _≤_};
 ghost use lib.ListN.{length, drop};
 ghost use Rattle.refusals.specs.Outcomes.{passed};
 ghost use Rattle.refusals.specs.Filling.{fillReplyOf};
-ghost use Rattle.line.specs.Checks.{lineOutcome};
+ghost use Rattle.refusals.specs.Order.{outcome};
+ghost use Rattle.line.specs.Checks.{lineChecks};
 ghost use Rattle.bits.specs.Bits.{packed, total, Fit};
 ghost use Rattle.packed_sheet.specs.Layout.{firstEdition, headWidths, entryWidths, byteCount};
-ghost use Rattle.packed_sheet.specs.Writing.{curveValues, entriesAfter, sheetOf, writeAnswer, writeBytes};
+ghost use Rattle.packed_sheet.specs.Writing.{curveValues, entriesAfter, sheetOf, sheetIn};
 ghost use Rattle.sheet.specs.Pens.{Put, position};
 use crate::layout::COUNT;
 use crate::layout::CROSSFALL;
@@ -70,7 +71,7 @@ fn put_entry(bytes: &mut [u8], pen: Pen, distance: u32, curve: Curve) -> Pen
 
 // The distances and curves of a line that passes, but for the last distance.
 fn put_entries(bytes: &mut [u8], pen: Pen, line: Line) -> Pen
-    requires { ⌜ lineOutcome line ≡ passed ⌝ }
+    requires { ⌜ outcome (lineChecks line) ≡ passed ⌝ }
     requires { ⌜ (pen .held < 32) × (position pen + total entryWidths * line .count ≤ 8 * length (now bytes)) ⌝ }
     ensures { λ r. ⌜ Put (now (bytes .entry)) (now (bytes .exit)) pen r (total entryWidths * line .count) (entriesAfter line (line .count)) ⌝ }
 {
@@ -88,7 +89,7 @@ fn put_entries(bytes: &mut [u8], pen: Pen, line: Line) -> Pen
 
 // The sheet of a line that passes, at the front of bytes that are enough.
 fn write_sheet(line: Line, bytes: &mut [u8])
-    requires { ⌜ lineOutcome line ≡ passed ⌝ }
+    requires { ⌜ outcome (lineChecks line) ≡ passed ⌝ }
     requires { ⌜ byteCount firstEdition (line .count) ≤ length (now bytes) ⌝ }
     ensures { λ _. ⌜ now (bytes .exit) ≡ sheetOf firstEdition line ++ drop (byteCount firstEdition (line .count)) (now (bytes .entry)) ⌝ }
 {
@@ -117,8 +118,8 @@ fn write_sheet(line: Line, bytes: &mut [u8])
 // 6, 8 to 11 in sheet order, then 16; a refusal leaves `bytes` as they were. Any line and any bytes are taken; unused entries
 // are ignored. Each byte is stored once, in ascending order.
 pub fn write(line: Line, bytes: &mut [u8]) -> FillAnswer
-    ensures answer { λ a. ⌜ fillReplyOf a ≡ writeAnswer firstEdition line (length (now (bytes .entry))) ⌝ }
-    ensures memory { λ _. ⌜ now (bytes .exit) ≡ writeBytes firstEdition line (now (bytes .entry)) ⌝ }
+    ensures answer { λ a. ⌜ fillReplyOf a ≡ sheetIn firstEdition line (now (bytes .entry)) .reply ⌝ }
+    ensures memory { λ _. ⌜ now (bytes .exit) ≡ sheetIn firstEdition line (now (bytes .entry)) .buffer ⌝ }
 {
     let verdict = check_line(line);
     match verdict {

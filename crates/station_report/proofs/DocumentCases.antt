@@ -1,17 +1,19 @@
 -- Document 01's starred cases, 1 to 9, by a single claim from the definitions that the contracts cite: reader, elements, calculator and
 -- text. Assumes nothing.
 use mathlib.Core.Path.{_≡_, refl, sym, _∙_, ap}
-use mathlib.Core.Bool.{true, false}
+use mathlib.Core.Bool.{true}
 use mathlib.Core.List.{List, [], _∷_}
 use Prim.Native.Nat.{ℕ}
 use lib.IntN.{pos, negsuc}
+use lib.ListN.{replicate}
 use Rattle.refusals.specs.Outcomes.{passed}
 use Rattle.refusals.specs.Filling.{filled, unfilled}
-use Rattle.line.specs.Checks.{startOutcome, headOutcome, distanceOutcome, curveOutcome, bodyOutcome}
+use Rattle.refusals.specs.Order.{outcome}
+use Rattle.line.specs.Checks.{startCheck, headChecks, distanceCheck, curveChecks, bodyChecks}
 use Rattle.line.specs.Entries.{entries}
 use Rattle.bits.specs.Bits.{valueOf, bitsAt, valuesAt}
 use Rattle.packed_sheet.specs.Layout.{firstEdition}
-use Rattle.packed_sheet.specs.Reading.{headOf, distanceOf, curveOf, lineOf, sizeOutcome, frameOutcome, readOutcome, readLine}
+use Rattle.packed_sheet.specs.Reading.{headOf, distanceOf, curveOf, lineOf, sizeChecks, frameChecks, readChecks, readLine}
 use Rattle.packed_sheet.proofs.Examples.{sheet9}
 use Rattle.packed_sheet.proofs.Examples as sheets
 use Rattle.elements.specs.WorkingRule.{arcOf}
@@ -19,7 +21,7 @@ use Rattle.elements.specs.Answer.{answered, declined, elementReply}
 use Rattle.elements.proofs.Examples as curves
 use Rattle.stationing.specs.RoadTables.{radiusServes}
 use Rattle.stationing.specs.Stations.{straightAt}
-use Rattle.stationing.specs.Answer.{stationsAnswer, stationsRow}
+use Rattle.stationing.specs.Answer.{stationsIn}
 use Rattle.stationing.proofs.Examples.{caseLine, noCurve, row}
 use Rattle.stationing.proofs.Examples as lines
 use Rattle.report.specs.Numbers.{ascii}
@@ -38,20 +40,20 @@ sheet1 =
 pub record DocumentCases : Type 0 where
   pub case-1-elements : elementReply 177764 350000 40000
       ≡ answered (record { X = pos 39986940; Y = pos 761727; k = pos 19997823; p = pos 190454; D = pos 261638467; TT = pos 180989278 })
-  pub case-1-read : readOutcome firstEdition sheet1 ≡ passed
+  pub case-1-read : outcome (readChecks firstEdition sheet1) ≡ passed
   pub case-1-line : readLine firstEdition sheet1 ≡ caseLine 500000 350000 40000
-  pub case-1-accepted : stationsAnswer (caseLine 500000 350000 40000) 7 ≡ filled 5
-  pub case-1-stations : stationsRow (caseLine 500000 350000 40000) row
+  pub case-1-accepted : stationsIn (caseLine 500000 350000 40000) row .reply ≡ filled 5
+  pub case-1-stations : stationsIn (caseLine 500000 350000 40000) row .buffer
       ≡ 319010722 ∷ 359010722 ∷ 620649189 ∷ 660649189 ∷ 879659911 ∷ 6 ∷ 7 ∷ []
   pub case-1-printed : sheetText sheet1
       ≡ ascii "POINT CURVE STATION\nTS 1 319.010722\nSC 1 359.010722\nCS 1 620.649189\nST 1 660.649189\nEND 0 879.659911\n"
-  pub case-2-accepted : stationsAnswer (caseLine 180991 350000 40000) 5 ≡ filled 5
+  pub case-2-accepted : stationsIn (caseLine 180991 350000 40000) (replicate 5 0) .reply ≡ filled 5
   pub case-2-straight : straightAt (caseLine 180991 350000 40000) 0 ≡ pos 1722
-  pub case-3 : stationsAnswer (caseLine 180990 350000 40000) 0 ≡ unfilled 15 0
-  pub case-4 : stationsAnswer (caseLine 500000 350000 39999) 5 ≡ unfilled 13 1
+  pub case-3 : stationsIn (caseLine 180990 350000 40000) [] .reply ≡ unfilled 15 0
+  pub case-4 : stationsIn (caseLine 500000 350000 39999) (replicate 5 0) .reply ≡ unfilled 13 1
   pub case-5-passes : radiusServes 70 8 167751 ≡ true
-  pub case-5-refused : radiusServes 70 8 167750 ≡ false
-  pub case-5-line-refused : stationsAnswer (caseLine 500000 167750 0) 5 ≡ unfilled 12 1
+  pub case-5-accepted : stationsIn (caseLine 500000 167751 0) (replicate 5 0) .reply ≡ filled 5
+  pub case-5-refused : stationsIn (caseLine 500000 167750 0) (replicate 5 0) .reply ≡ unfilled 12 1
   pub case-6 : elementReply 23574 350000 40000
       ≡ answered (record { X = pos 39986940; Y = pos 761727; k = pos 19997823; p = pos 190454; D = pos 1491; TT = pos 40031263 })
   pub case-7 : arcOf 23573 350000 40000 ≡ negsuc 204
@@ -60,15 +62,15 @@ pub record DocumentCases : Type 0 where
       ≡ answered (record { X = pos 0; Y = pos 0; k = pos 0; p = pos 0; D = pos 1696; TT = pos 848 })
   pub case-8-short : arcOf 1 200000 0 ≡ pos 969
   pub case-8-refused : elementReply 1 200000 0 ≡ declined 14 0
-  pub case-9-read : readOutcome firstEdition sheet9 ≡ passed
+  pub case-9-read : outcome (readChecks firstEdition sheet9) ≡ passed
   pub case-9-line : readLine firstEdition sheet9 ≡ noCurve
-  pub case-9-accepted : stationsAnswer noCurve 1 ≡ filled 1
-  pub case-9-end : stationsRow noCurve (7 ∷ []) ≡ 500000000 ∷ []
+  pub case-9-accepted : stationsIn noCurve (7 ∷ []) .reply ≡ filled 1
+  pub case-9-end : stationsIn noCurve (7 ∷ []) .buffer ≡ 500000000 ∷ []
   pub case-9-printed : sheetText sheet9 ≡ ascii "POINT CURVE STATION\nEND 0 500.000000\n"
 
 -- The reader's part of case 1.
-read1 : (readOutcome firstEdition sheet1 ≡ passed) × (readLine firstEdition sheet1 ≡ caseLine 500000 350000 40000)
-unfolding startOutcome headOutcome distanceOutcome curveOutcome bodyOutcome entries valueOf bitsAt valuesAt headOf distanceOf curveOf lineOf sizeOutcome frameOutcome readOutcome readLine
+read1 : (outcome (readChecks firstEdition sheet1) ≡ passed) × (readLine firstEdition sheet1 ≡ caseLine 500000 350000 40000)
+unfolding startCheck headChecks distanceCheck curveChecks bodyChecks entries valueOf bitsAt valuesAt headOf distanceOf curveOf lineOf sizeChecks frameChecks readChecks readLine
 read1 = (refl, refl)
 
 pub document-cases : DocumentCases
@@ -89,8 +91,8 @@ document-cases =
       case-3 = lines.examples .case-3;
       case-4 = lines.examples .case-4;
       case-5-passes = lines.examples .case-5;
-      case-5-refused = lines.examples .case-5-below;
-      case-5-line-refused = lines.examples .case-5-refused;
+      case-5-accepted = lines.examples .case-5-accepted;
+      case-5-refused = lines.examples .case-5-refused;
       case-6 = curves.examples .case-6;
       case-7 = curves.examples .case-7;
       case-7-refused = curves.examples .case-7-refused;

@@ -2,12 +2,13 @@
 use mathlib.Core.List.{List, _++_}
 use Prim.Native.Nat.{ℕ}
 use lib.ListN.{length, drop, replicate}
-use Rattle.refusals.specs.Outcomes.{Outcome, passed, refused, _▹_}
+use Rattle.refusals.specs.Outcomes.{Outcome, passed, refused}
+use Rattle.refusals.specs.Order.{Checks, _⨾_, outcome}
 use Rattle.line.specs.declared.Line.{Line}
 use Rattle.packed_sheet.specs.Layout.{firstEdition}
-use Rattle.packed_sheet.specs.Reading.{readOutcome, readLine}
+use Rattle.packed_sheet.specs.Reading.{readChecks, readLine}
 use Rattle.stationing.specs.Stations.{stationRow}
-use Rattle.stationing.specs.Answer.{alignmentOutcome}
+use Rattle.stationing.specs.Answer.{alignmentChecks}
 use Rattle.report.specs.Text.{stationList, refusalLine}
 
 -- The list of stations, or "only `REFUSED`, number, place"
@@ -17,15 +18,15 @@ answerText (refused number place) row = refusalLine number place
 
 -- The text of a line: its stations, or the calculator's refusal.
 unfoldable pub lineText : Line → List ℕ
-lineText line = answerText (alignmentOutcome line) (stationRow line)
+lineText line = answerText (outcome (alignmentChecks line)) (stationRow line)
 
--- The first refusal of reader and calculator, in this order.
-unfoldable pub sheetOutcome : List ℕ → Outcome
-sheetOutcome sheet = readOutcome firstEdition sheet ▹ alignmentOutcome (readLine firstEdition sheet)
+-- The checks of reader and calculator, in this order.
+unfoldable pub sheetChecks : List ℕ → Checks
+sheetChecks sheet = readChecks firstEdition sheet ⨾ alignmentChecks (readLine firstEdition sheet)
 
 -- The text of a sheet.
 unfoldable pub sheetText : List ℕ → List ℕ
-sheetText sheet = answerText (sheetOutcome sheet) (stationRow (readLine firstEdition sheet))
+sheetText sheet = answerText (outcome (sheetChecks sheet)) (stationRow (readLine firstEdition sheet))
 
 -- The text in 5,417 bytes, zeros behind it; no sheet needs more (`proofs/Fits.antt`).
 unfoldable pub wholeText : List ℕ → List ℕ

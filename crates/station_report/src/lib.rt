@@ -2,8 +2,8 @@
 ghost use mathlib.Core.Path.{_≡_};
 ghost use lib.ListN.{length};
 ghost use Rattle.io.specs.Counts.{Counts};
-ghost use Rattle.refusals.specs.Filling.{fillReplyOf};
-ghost use Rattle.report.specs.Text.{textAnswer, textBytes};
+ghost use Rattle.refusals.specs.Order.{unchecked};
+ghost use Rattle.refusals.specs.Filling.{fillReplyOf, fill};
 ghost use Rattle.station_report.specs.Report.{lineText, sheetText, wholeText};
 use line::Line;
 use refusals::FillAnswer;
@@ -11,8 +11,8 @@ use refusals::Verdict;
 
 // The stations of a line, or the calculator's refusal, as text at the front of `text`; 257 numbers hold any line's stations.
 fn report_line(line: Line, text: &mut [u8]) -> FillAnswer
-    ensures answer { λ a. ⌜ fillReplyOf a ≡ textAnswer (lineText line) (length (now (text .entry))) ⌝ }
-    ensures memory { λ _. ⌜ now (text .exit) ≡ textBytes (lineText line) (now (text .entry)) ⌝ }
+    ensures answer { λ a. ⌜ fillReplyOf a ≡ fill unchecked (lineText line) (now (text .entry)) .reply ⌝ }
+    ensures memory { λ _. ⌜ now (text .exit) ≡ fill unchecked (lineText line) (now (text .entry)) .buffer ⌝ }
 {
     let mut row = [0u64; 257];
     let answer = calculator::stations(line, &mut row);
@@ -26,8 +26,8 @@ fn report_line(line: Line, text: &mut [u8]) -> FillAnswer
 // decimals, or the line of the first refusal of reader and calculator. Any bytes are taken. Answers the length of the text, or
 // refusal 16, which leaves `text` as it was.
 pub fn report_sheet(sheet: &[u8], text: &mut [u8]) -> FillAnswer
-    ensures answer { λ a. ⌜ fillReplyOf a ≡ textAnswer (sheetText (now (sheet .entry))) (length (now (text .entry))) ⌝ }
-    ensures memory { λ _. ⌜ now (text .exit) ≡ textBytes (sheetText (now (sheet .entry))) (now (text .entry)) ⌝ }
+    ensures answer { λ a. ⌜ fillReplyOf a ≡ fill unchecked (sheetText (now (sheet .entry))) (now (text .entry)) .reply ⌝ }
+    ensures memory { λ _. ⌜ now (text .exit) ≡ fill unchecked (sheetText (now (sheet .entry))) (now (text .entry)) .buffer ⌝ }
 {
     let read = sheet::read(sheet);
     let verdict = read.verdict;

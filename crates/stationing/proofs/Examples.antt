@@ -6,15 +6,15 @@ use Prim.Native.Nat.{ℕ}
 use lib.IntN.{pos}
 use lib.ListN.{replicate}
 use Rattle.refusals.specs.Outcomes.{firstOf}
-use Rattle.refusals.specs.Filling.{filled, unfilled}
+use Rattle.refusals.specs.Filling.{filled, unfilled, withRoom, fill}
 use Rattle.line.specs.declared.Curve.{Curve}
 use Rattle.line.specs.declared.Line.{Line}
-use Rattle.line.specs.Checks.{startOutcome, headOutcome, distanceOutcome, curveOutcome, bodyOutcome, lineOutcome}
+use Rattle.line.specs.Checks.{startCheck, headChecks, distanceCheck, curveChecks, bodyChecks, lineChecks}
 use Rattle.elements.specs.WorkingRule.{rounded, fullAngle, halfAngle, spiralAngle, term, alternating, sineOf, cosineOf, t2, t3, t4, unitX, unitY, spiralX, spiralY, centreOf, shiftOf, arcOf, tanOf, tangentOf}
-use Rattle.elements.specs.Answer.{arcOutcome}
+use Rattle.elements.specs.Answer.{arcCheck}
 use Rattle.stationing.specs.RoadTables.{underSpeed, frictionAt, leastSpiralAt, radiusServes, spiralServes}
 use Rattle.stationing.specs.Stations.{spiralAt, arcAt, tangentAt, tangentBefore, tangentAfter, straightAt, formerST, pointsAt, endOf, curveStations, stationsOf, stationRow}
-use Rattle.stationing.specs.Answer.{designOutcome, curveCheck, straightCheck, alignmentOutcome, roomCheck, stationsOutcome, stationsAnswer, stationsRow}
+use Rattle.stationing.specs.Answer.{designChecks, designChecksAt, straightCheck, alignmentChecks, stationsIn}
 
 -- A curve to the right.
 abbrev curve : ℕ → ℕ → ℕ → Curve
@@ -54,25 +54,24 @@ abbrev pub row : List ℕ
 row = 1 ∷ 2 ∷ 3 ∷ 4 ∷ 5 ∷ 6 ∷ 7 ∷ []
 
 pub record Examples : Type 0 where
-  pub case-1 : stationsAnswer (caseLine 500000 350000 40000) 7 ≡ filled 5
-  pub case-1-row : stationsRow (caseLine 500000 350000 40000) row
+  pub case-1 : stationsIn (caseLine 500000 350000 40000) row .reply ≡ filled 5
+  pub case-1-row : stationsIn (caseLine 500000 350000 40000) row .buffer
       ≡ 319010722 ∷ 359010722 ∷ 620649189 ∷ 660649189 ∷ 879659911 ∷ 6 ∷ 7 ∷ []
-  pub case-1-small : stationsAnswer (caseLine 500000 350000 40000) 4 ≡ unfilled 16 0
-  pub case-2 : stationsAnswer (caseLine 180991 350000 40000) 5 ≡ filled 5
+  pub case-1-small : stationsIn (caseLine 500000 350000 40000) (replicate 4 0) .reply ≡ unfilled 16 0
+  pub case-2 : stationsIn (caseLine 180991 350000 40000) (replicate 5 0) .reply ≡ filled 5
   pub case-2-straight : straightAt (caseLine 180991 350000 40000) 0 ≡ pos 1722
-  pub case-3 : stationsAnswer (caseLine 180990 350000 40000) 0 ≡ unfilled 15 0
-  pub case-3-row : stationsRow (caseLine 180990 350000 40000) row ≡ row
-  pub case-4 : stationsAnswer (caseLine 500000 350000 39999) 5 ≡ unfilled 13 1
+  pub case-3 : stationsIn (caseLine 180990 350000 40000) [] .reply ≡ unfilled 15 0
+  pub case-3-row : stationsIn (caseLine 180990 350000 40000) row .buffer ≡ row
+  pub case-4 : stationsIn (caseLine 500000 350000 39999) (replicate 5 0) .reply ≡ unfilled 13 1
   pub case-5 : radiusServes 70 8 167751 ≡ true
-  pub case-5-below : radiusServes 70 8 167750 ≡ false
-  pub case-5-accepted : stationsAnswer (caseLine 500000 167751 0) 5 ≡ filled 5
-  pub case-5-refused : stationsAnswer (caseLine 500000 167750 0) 5 ≡ unfilled 12 1
-  pub case-9 : stationsAnswer noCurve 1 ≡ filled 1
-  pub case-9-row : stationsRow noCurve (7 ∷ []) ≡ 500000000 ∷ []
-  pub curve-by-curve : stationsAnswer twoFaults 9 ≡ unfilled 13 1
+  pub case-5-accepted : stationsIn (caseLine 500000 167751 0) (replicate 5 0) .reply ≡ filled 5
+  pub case-5-refused : stationsIn (caseLine 500000 167750 0) (replicate 5 0) .reply ≡ unfilled 12 1
+  pub case-9 : stationsIn noCurve (7 ∷ []) .reply ≡ filled 1
+  pub case-9-row : stationsIn noCurve (7 ∷ []) .buffer ≡ 500000000 ∷ []
+  pub curve-by-curve : stationsIn twoFaults (replicate 9 0) .reply ≡ unfilled 13 1
 
 pub examples : Examples
-unfolding firstOf startOutcome headOutcome distanceOutcome curveOutcome bodyOutcome lineOutcome rounded fullAngle halfAngle spiralAngle term alternating sineOf cosineOf t2 t3 t4 unitX unitY spiralX spiralY centreOf shiftOf arcOf tanOf tangentOf arcOutcome underSpeed frictionAt leastSpiralAt radiusServes spiralServes spiralAt arcAt tangentAt tangentBefore tangentAfter straightAt formerST pointsAt endOf curveStations stationsOf stationRow designOutcome curveCheck straightCheck alignmentOutcome roomCheck stationsOutcome stationsAnswer stationsRow
+unfolding firstOf startCheck headChecks distanceCheck curveChecks bodyChecks lineChecks rounded fullAngle halfAngle spiralAngle term alternating sineOf cosineOf t2 t3 t4 unitX unitY spiralX spiralY centreOf shiftOf arcOf tanOf tangentOf arcCheck underSpeed frictionAt leastSpiralAt radiusServes spiralServes spiralAt arcAt tangentAt tangentBefore tangentAfter straightAt formerST pointsAt endOf curveStations stationsOf stationRow designChecks designChecksAt straightCheck alignmentChecks withRoom fill stationsIn
 examples =
     record {
       case-1 = refl;
@@ -84,7 +83,6 @@ examples =
       case-3-row = refl;
       case-4 = refl;
       case-5 = refl;
-      case-5-below = refl;
       case-5-accepted = refl;
       case-5-refused = refl;
       case-9 = refl;

@@ -5,7 +5,7 @@ pub mod Fronts
 pub mod CurveSteps
 pub mod StraightSteps
 pub mod RowSteps
-pub mod WaysOut
+pub mod RowCount
 pub mod Accepted
 pub mod FormerST
 pub mod Examples

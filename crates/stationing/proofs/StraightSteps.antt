@@ -12,6 +12,7 @@ use lib.Signed.{leZ}
 use borrow.Author.Tests.{lt-ltb, le-ltb, lt-leb, le-leb}
 use Rattle.numbers.proofs.Differences.{minus-le, minus-minus, reaches}
 use Rattle.refusals.specs.Outcomes.{passed, refused}
+use Rattle.refusals.specs.Order.{outcome}
 use Rattle.line.specs.declared.Line.{Line}
 use Rattle.line.specs.Checks.{distanceAt}
 use Rattle.stationing.specs.Stations.{tangentAt, tangentBefore, tangentAfter, straightAt}
@@ -48,11 +49,11 @@ module _ (line : Line) (i : ℕ) {before after : ℕ} (b : pos before ≡ tangen
   pub straight-reaches : leZ (pos 1000) (straightAt line i) ≡ leb (before + after + 1000) (1000 * distanceAt line i)
   straight-reaches = ap (leZ (pos 1000)) straight-is ∙ reaches (1000 * distanceAt line i) (before + after) 1000
 
-  pub short-straight : 1000 * distanceAt line i < before + after + 1000 → straightCheck line i ≡ refused 15 i
+  pub short-straight : 1000 * distanceAt line i < before + after + 1000 → outcome (straightCheck line i) ≡ refused 15 i
   unfolding straightCheck
   short-straight h = rw (straight-reaches, lt-leb _ _ h)
 
-  pub long-straight : before + after + 1000 ≤ 1000 * distanceAt line i → straightCheck line i ≡ passed
+  pub long-straight : before + after + 1000 ≤ 1000 * distanceAt line i → outcome (straightCheck line i) ≡ passed
   unfolding straightCheck
   long-straight h = rw (straight-reaches, le-leb _ _ h)
 

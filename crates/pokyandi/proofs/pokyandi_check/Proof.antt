@@ -23,7 +23,7 @@ answer-number-requires c κs = search needs
 returns : tie.Need-returns
 returns c =
     let told = c .before .before .sheet-stations .ensures in
-    c .answer-number .ensures ∙ ap answerNumber (told .0 ∙ check-reply _ (omega (arith, length-replicate {A = ℕ} 257 0)))
+    c .answer-number .ensures ∙ ap answerNumber (told .0 ∙ check-reply _ _ (omega (arith, length-replicate {A = ℕ} 257 0)))
 
 pub pokyandi-check-spec : {M : Type 1} → statement M
 pokyandi-check-spec =

@@ -1,7 +1,5 @@
 -- `pokyandi_text` meets its contract. Assumes nothing.
 use mathlib.Core.Path.{_∙_, ap}
-use Rattle.report.specs.Text.{textOutcome, textAnswer, textBytes}
-use Rattle.refusals.specs.Filling.{withRoom, replyFor, bufferFor}
 use Rattle.pokyandi.specs.Answers.{answerNumber}
 use borrow.Author.Needs.{needs}
 use Rattle.pokyandi.proofs.pokyandi_text.Statement.{statement}
@@ -19,7 +17,6 @@ same-length : tie.Need-same-length
 same-length c = search needs
 
 returns : tie.Need-returns
-unfolding textAnswer textBytes textOutcome withRoom replyFor bufferFor
 returns c =
     let told = c .before .before .before .report-sheet .ensures in
     (c .answer-number .ensures ∙ ap answerNumber (told .0), told .1)

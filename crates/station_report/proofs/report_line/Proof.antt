@@ -1,11 +1,14 @@
 -- `report_line` meets its contract. Assumes nothing.
-use mathlib.Core.Path.{sym, _∙_, ap}
+use mathlib.Core.Path.{refl, sym, _∙_, ap}
 use Prim.Native.Nat.{ℕ}
 use borrow.Author.Needs.{needs}
 use lib.ListN.{length-replicate}
 use lib.Seq.{length-take-le}
+use Rattle.refusals.specs.Order.{unchecked}
 use Rattle.refusals.specs.Filling.{fillReplyOf}
-use Rattle.station_report.proofs.Texts.{same-text, refused-text, counted-within, counted-text}
+use Rattle.refusals.proofs.FillWays.{refill}
+use Rattle.station_report.specs.Report.{lineText}
+use Rattle.station_report.proofs.Texts.{refused-text, counted-within, counted-text}
 use Rattle.station_report.proofs.report_line.Statement.{statement}
 use Rattle.station_report.proofs.report_line.Tie as tie
 
@@ -49,7 +52,8 @@ returns c =
     let called = c .before .before .before .before .before .before .before .before .before .stations in
     let told = c .before .before .before .before .before .before .answer .given in
     let reply = sym (called .ensures .0) ∙ ap fillReplyOf (told .1) in
-    same-text (c .before .before .before .before .before .before .before .before .before .before .before .before .args .text .now) (counted-text _ _ (called .ensures .1) reply) (c .before .before .station-list .ensures)
+    let start = c .before .before .before .before .before .before .before .before .before .before .before .before in
+    refill unchecked unchecked _ (lineText (start .args .line)) (start .args .text .now) refl (sym (counted-text _ _ (called .ensures .1) reply)) (c .before .before .station-list .ensures)
 
 same-length-2 : tie.Need-same-length-2
 same-length-2 c = search needs
@@ -59,7 +63,8 @@ returns-2 c =
     let called = c .before .before .before .before .before .before .before .before .stations in
     let told = c .before .before .before .before .before .answer2 .given in
     let reply = sym (called .ensures .0) ∙ ap fillReplyOf (told .1) in
-    same-text (c .before .before .before .before .before .before .before .before .before .before .before .args .text .now) (refused-text _ _ (called .ensures .1) (length-replicate {A = ℕ} 257 0) reply) (c .before .before .refusal-line .ensures)
+    let start = c .before .before .before .before .before .before .before .before .before .before .before in
+    refill unchecked unchecked _ (lineText (start .args .line)) (start .args .text .now) refl (sym (refused-text _ _ (called .ensures .1) (length-replicate {A = ℕ} 257 0) reply)) (c .before .before .refusal-line .ensures)
 
 pub report-line-spec : {M : Type 1} → statement M
 report-line-spec =

@@ -1,9 +1,11 @@
 -- `report_sheet` meets its contract. Assumes nothing.
-use mathlib.Core.Path.{sym, _∙_, ap}
+use mathlib.Core.Path.{refl, sym, _∙_, ap}
 use borrow.Author.Needs.{needs}
 use Rattle.refusals.specs.Outcomes.{outcomeOf}
-use Rattle.station_report.specs.Report.{lineText}
-use Rattle.station_report.proofs.Texts.{same-text, read-text, unread-text}
+use Rattle.refusals.specs.Order.{unchecked}
+use Rattle.refusals.proofs.FillWays.{refill}
+use Rattle.station_report.specs.Report.{lineText, sheetText}
+use Rattle.station_report.proofs.Texts.{read-text, unread-text}
 use Rattle.station_report.proofs.report_sheet.Statement.{statement}
 use Rattle.station_report.proofs.report_sheet.Tie as tie
 
@@ -29,7 +31,9 @@ returns : tie.Need-returns
 returns c =
     let read = c .before .before .before .before .before .before .read .ensures in
     let passes = sym (read .0) ∙ ap outcomeOf (c .before .before .before .before .enum-told .given .1) in
-    same-text (c .before .before .before .before .before .before .before .before .before .args .text .now) (read-text (c .before .before .before .before .before .before .before .before .before .args .sheet .now) passes ∙ ap lineText (sym (read .1))) (c .before .before .report-line .ensures)
+    let start = c .before .before .before .before .before .before .before .before .before in
+    let sheet = start .args .sheet .now in
+    refill unchecked unchecked _ (sheetText sheet) (start .args .text .now) refl (ap lineText (read .1 .0) ∙ sym (read-text sheet passes)) (c .before .before .report-line .ensures)
 
 same-length-2 : tie.Need-same-length-2
 same-length-2 c = search needs
@@ -37,7 +41,9 @@ same-length-2 c = search needs
 returns-2 : tie.Need-returns-2
 returns-2 c =
     let refusal = sym (c .before .before .before .before .before .before .before .read .ensures .0) ∙ ap outcomeOf (c .before .before .before .before .before .verdict .given .1) in
-    same-text (c .before .before .before .before .before .before .before .before .before .before .args .text .now) (unread-text (c .before .before .before .before .before .before .before .before .before .before .args .sheet .now) refusal) (c .before .before .refusal-line .ensures)
+    let start = c .before .before .before .before .before .before .before .before .before .before in
+    let sheet = start .args .sheet .now in
+    refill unchecked unchecked _ (sheetText sheet) (start .args .text .now) refl (sym (unread-text sheet refusal)) (c .before .before .refusal-line .ensures)
 
 pub report-sheet-spec : {M : Type 1} → statement M
 report-sheet-spec =

@@ -1,11 +1,15 @@
 -- `whole_report` meets its contract. Assumes nothing.
-use mathlib.Core.Path.{sym, _∙_, ap}
+use mathlib.Core.Path.{sym, _∙_, ap, subst}
+use mathlib.Core.List.{List}
+use Prim.Native.Nat.{ℕ, _≤_}
 use native.Mathlib.Omega.{arith}
 use borrow.Author.Needs.{needs}
+use lib.ListN.{length}
 use lib.Seq.{length-take-le}
+use Rattle.refusals.specs.Order.{unchecked}
 use Rattle.refusals.specs.Filling.{fillReplyOf}
-use Rattle.report.proofs.Replies.{given-text}
-use Rattle.station_report.specs.Report.{wholeText}
+use Rattle.refusals.proofs.Filled.{found}
+use Rattle.station_report.specs.Report.{sheetText, wholeText}
 use Rattle.station_report.proofs.Fits.{never-refused}
 use Rattle.station_report.proofs.whole_report.Statement.{statement}
 use Rattle.station_report.proofs.whole_report.Tie as tie
@@ -31,8 +35,9 @@ returns-2 : tie.Need-returns-2
 unfolding wholeText
 returns-2 c =
     let called = c .before .before .before .before .report-sheet in
-    let given = given-text _ _ (called .ensures .1) (sym (called .ensures .0) ∙ ap fillReplyOf (c .before .answer .given .1)) in
-    (given .whole, (given .all, (given .room, sym (length-take-le _ _ (given .room)))))
+    let given = found unchecked (sheetText _) _ (sym (called .ensures .0) ∙ ap fillReplyOf (c .before .answer .given .1)) in
+    let room = subst (λ (t : List ℕ). c .before .answer .given .0 .0 ≤ length t) (sym (called .ensures .1)) (given .within) in
+    (called .ensures .1 ∙ given .holds, (given .all, (room, sym (length-take-le _ _ room))))
 
 pub whole-report-spec : {M : Type 1} → statement M
 whole-report-spec =

@@ -4,12 +4,13 @@ use Prim.Native.Nat.{ℕ, _-_, _≤_}
 use native.Mathlib.Omega.{arith}
 use borrow.Author.Needs.{needs}
 use Rattle.refusals.specs.Outcomes.{passed, firstOf}
+use Rattle.refusals.specs.Order.{inTurn, outcome}
 use Rattle.refusals.proofs.Joining.{not-both}
 use Rattle.line.specs.Checks.{curveAt}
 use Rattle.elements.specs.Answer.{replyOf}
 use Rattle.elements.proofs.Replies.{found-elements}
 use Rattle.stationing.specs.Stations.{tangentAt, arcAt}
-use Rattle.stationing.specs.Answer.{curveCheck}
+use Rattle.stationing.specs.Answer.{designChecksAt}
 use Rattle.stationing.specs.Arrays.{TangentsTo, ArcsTo}
 use Rattle.stationing.proofs.Fronts.{front-empty, front-more}
 use Rattle.stationing.proofs.CurveSteps.{least-refused, arc-refused, curve-passed}
@@ -18,7 +19,7 @@ use Rattle.calculator.proofs.lengths.curve_lengths.Tie as tie
 
 abbrev Inv-loop : tie.InvT-loop
 Inv-loop line n speed crossfall tangents₀ arcs₀ i₀ tangents arcs i =
-    (i ≤ n) × (firstOf (curveCheck line) i ≡ passed) × TangentsTo line i tangents × ArcsTo line i arcs
+    (i ≤ n) × (outcome (inTurn (designChecksAt line) i) ≡ passed) × TangentsTo line i tangents × ArcsTo line i arcs
 
 abbrev μ-loop : tie.MeasureT-loop
 μ-loop line n speed crossfall tangents₀ arcs₀ i₀ tangents arcs i = n - i
@@ -142,7 +143,7 @@ returns-3 c =
     let loop = c .before .loop in
     let all : loop .i ≡ start .args .t1 .count = omega arith in
     record {
-      outcome = sym (loop .inv .1) ∙ ap (firstOf (curveCheck (start .args .t1))) all;
+      outcome = sym (loop .inv .1) ∙ ap (λ (n : ℕ). outcome (inTurn (designChecksAt (start .args .t1)) n)) all;
       tangents = λ e. subst (λ (i : ℕ). TangentsTo (start .args .t1) i (loop .tangents)) all (loop .inv .2);
       arcs = λ e. subst (λ (i : ℕ). ArcsTo (start .args .t1) i (loop .arcs)) all (loop .inv .3);
     }

@@ -3,7 +3,7 @@ use mathlib.Core.Path.{sym, _∙_, ap, subst}
 use Rattle.refusals.specs.Outcomes.{outcomeOf}
 use Rattle.refusals.proofs.Joining.{refused-first, passed-first, not-both}
 use Rattle.line.proofs.InRange.{line-in-range}
-use Rattle.stationing.specs.Answer.{alignmentOutcome}
+use Rattle.stationing.specs.Answer.{alignmentChecks}
 use Rattle.stationing.specs.Arrays.{ArcsTo}
 use borrow.Author.Needs.{needs}
 use Rattle.calculator.proofs.lengths.lengths_of.Statement.{statement}
@@ -22,7 +22,7 @@ no-lengths-requires : tie.Need-no-lengths-requires
 no-lengths-requires c κs = tt
 
 returns : tie.Need-returns
-unfolding alignmentOutcome
+unfolding alignmentChecks
 returns c =
     let fields = c .before .before .before .check-line in
     let told = c .before .enum-told2 .given .1 in
@@ -47,7 +47,7 @@ no-lengths-requires-2 : tie.Need-no-lengths-requires-2
 no-lengths-requires-2 c κs = tt
 
 returns-2 : tie.Need-returns-2
-unfolding alignmentOutcome
+unfolding alignmentChecks
 returns-2 c =
     let fields = c .before .before .before .before .before .before .check-line in
     let designs = c .before .before .before .curve-lengths in
@@ -69,7 +69,7 @@ with-straights-requires c κs = (
 )
 
 returns-3 : tie.Need-returns-3
-unfolding alignmentOutcome
+unfolding alignmentChecks
 returns-3 c =
     let fields = c .before .before .before .before .before .before .check-line in
     let designs = c .before .before .before .curve-lengths in

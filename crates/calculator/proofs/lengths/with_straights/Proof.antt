@@ -7,6 +7,7 @@ use lib.IntN.{pos}
 use borrow.Author.Needs.{needs}
 use Rattle.numbers.proofs.Ranges.{at-most}
 use Rattle.refusals.specs.Outcomes.{passed, firstOf}
+use Rattle.refusals.specs.Order.{inTurn, outcome}
 use Rattle.refusals.proofs.Joining.{not-both}
 use Rattle.refusals.proofs.InTurn.{one-more, first-refused}
 use Rattle.stationing.specs.Stations.{tangentBefore}
@@ -21,7 +22,7 @@ use Rattle.calculator.proofs.lengths.with_straights.Tie as tie
 abbrev Inv-loop : tie.InvT-loop
 Inv-loop line curves n arcs straights₀ before₀ i₀ straights before i =
     (i ≤ n + 1)
-    × (firstOf (straightCheck line) i ≡ passed)
+    × (outcome (inTurn (straightCheck line) i) ≡ passed)
     × StraightsTo line i straights
     × (i ≤ n → pos before ≡ tangentBefore line i)
 
@@ -122,7 +123,7 @@ returns-2 c =
     let loop = c .before .loop in
     let all : loop .i ≡ suc (line .count) = omega arith in
     record {
-      outcome = sym (loop .inv .1) ∙ ap (firstOf (straightCheck line)) all;
+      outcome = sym (loop .inv .1) ∙ ap (λ (n : ℕ). outcome (inTurn (straightCheck line) n)) all;
       straights = λ e. subst (λ (i : ℕ). StraightsTo line i (loop .straights)) all (loop .inv .2);
       arcs = refl;
     }

@@ -1,10 +1,10 @@
 -- `stations`: a refusal of 3 to 15 leaves the row; where there is none, 16 decides. Assumes nothing.
-use mathlib.Core.Path.{sym, _∙_, ap}
-use Rattle.refusals.specs.Outcomes.{Outcome, outcomeOf}
-use Rattle.refusals.specs.Filling.{countAfter, bufferAfter}
+use mathlib.Core.Path.{refl, sym, _∙_, ap}
+use Rattle.refusals.specs.Outcomes.{outcomeOf}
+use Rattle.refusals.specs.Order.{unchecked}
+use Rattle.refusals.proofs.FillWays.{refused-fill, refill}
 use Rattle.stationing.specs.Stations.{stationRow}
-use Rattle.stationing.specs.Answer.{stationCount, stationsAnswer, stationsRow}
-use Rattle.stationing.proofs.WaysOut.{refused-line, passed-line}
+use Rattle.stationing.specs.Answer.{alignmentChecks, stationsIn}
 use borrow.Author.Needs.{needs}
 use Rattle.calculator.proofs.row.stations.Statement.{statement}
 use Rattle.calculator.proofs.row.stations.Tie as tie
@@ -25,26 +25,23 @@ fill-requires c κs =
     (sym (lengths .outcome) ∙ ap outcomeOf told, (lengths .straights told, lengths .arcs told))
 
 returns : tie.Need-returns
+unfolding stationsIn
 returns c =
     let start = c .before .before .before .before .before in
-    let lengths = c .before .before .before .lengths-of in
-    refused-line (start .args .line) (start .args .row .now) (lengths .result .verdict) (lengths .ensures .outcome) (c .before .verdict .given .1)
+    let lengths = c .before .before .before .lengths-of .ensures in
+    refused-fill (alignmentChecks (start .args .line)) (stationRow (start .args .line)) (start .args .row .now) (sym (lengths .outcome) ∙ ap outcomeOf (c .before .verdict .given .1))
 
 same-length : tie.Need-same-length
 same-length c = search needs
 
 returns-2 : tie.Need-returns-2
-unfolding stationsAnswer stationsRow
+unfolding stationsIn
 returns-2 c =
     let start = c .before .before .before .before .before .before .before .before in
-    let lengths = c .before .before .before .before .before .before .lengths-of in
+    let lengths = c .before .before .before .before .before .before .lengths-of .ensures in
     let line = start .args .line in
-    let row = start .args .row .now in
-    let fill = c .before .before .fill in
-    let all = passed-line line row (lengths .result .verdict) (lengths .ensures .outcome) (c .before .before .before .before .enum-told .given .1) in (
-      fill .ensures .0 ∙ ap (λ (o : Outcome). countAfter o (stationCount line)) all,
-      fill .ensures .1 ∙ ap (λ (o : Outcome). bufferAfter o (stationRow line) row) all,
-    )
+    let checked = sym (ap outcomeOf (c .before .before .before .before .enum-told .given .1)) ∙ lengths .outcome in
+    refill unchecked (alignmentChecks line) (stationRow line) (stationRow line) (start .args .row .now) checked refl (c .before .before .fill .ensures)
 
 pub stations-spec : {M : Type 1} → statement M
 stations-spec =

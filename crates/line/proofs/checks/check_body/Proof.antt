@@ -1,16 +1,17 @@
 -- `check_body`: each turn adds a curve and the distance after it to those that pass, and a refusal ends the loop. Assumes nothing.
 use mathlib.Core.Path.{_≡_, sym, _∙_, ap}
-use Prim.Native.Nat.{_+_, _-_, _≤_}
+use Prim.Native.Nat.{ℕ, _+_, _-_, _≤_}
 use native.Mathlib.Omega.{arith}
 use borrow.Author.Needs.{needs}
 use Rattle.refusals.specs.Outcomes.{passed, outcomeOf}
-use Rattle.line.specs.Checks.{bodyOutcome}
+use Rattle.refusals.specs.Order.{outcome}
+use Rattle.line.specs.Checks.{bodyChecks}
 use Rattle.line.proofs.Walk.{body-step, body-refused}
 use Rattle.line.proofs.checks.check_body.Statement.{statement}
 use Rattle.line.proofs.checks.check_body.Tie as tie
 
 abbrev Inv-loop : tie.InvT-loop
-Inv-loop line n d0 i₀ i = (i ≤ n) × (bodyOutcome line i ≡ passed)
+Inv-loop line n d0 i₀ i = (i ≤ n) × (outcome (bodyChecks line i) ≡ passed)
 
 abbrev μ-loop : tie.MeasureT-loop
 μ-loop line n d0 i₀ i = n - i
@@ -28,14 +29,14 @@ enum-told-2 : tie.Need-enum-told-2 Inv-loop μ-loop
 enum-told-2 c = search needs
 
 returns : tie.Need-returns Inv-loop μ-loop
-unfolding bodyOutcome
+unfolding bodyChecks
 returns c =
     let start = c .before .before .before .before in
     let first = c .before .before .check-distance in
     body-refused (start .args .t1) 0 (start .args .t1 .count) (omega arith) (first .ensures) (ap outcomeOf (c .enum-told2 .given .1))
 
 loop-holds : tie.Need-loop-holds Inv-loop μ-loop
-unfolding bodyOutcome
+unfolding bodyChecks
 loop-holds c = (search needs, sym (c .before .before .check-distance .ensures) ∙ ap outcomeOf (c .enum-told .given .1))
 
 mul-curve : tie.Need-mul-curve Inv-loop μ-loop
@@ -91,7 +92,7 @@ returns-3 : tie.Need-returns-3 Inv-loop μ-loop
 returns-3 c =
     let start = c .before .before .before .before .before .before in
     let all : c .before .loop .i ≡ start .args .t1 .count = omega arith in
-    sym (c .before .loop .inv .1) ∙ ap (bodyOutcome (start .args .t1)) all
+    sym (c .before .loop .inv .1) ∙ ap (λ (n : ℕ). outcome (bodyChecks (start .args .t1) n)) all
 
 pub check-body-spec : {M : Type 1} → statement M
 check-body-spec =

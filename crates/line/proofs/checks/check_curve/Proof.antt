@@ -1,7 +1,7 @@
 -- `check_curve`: the code joins its verdicts as the definition does, in the same order. Assumes nothing.
 use mathlib.Core.Path.{_∙_}
 use Rattle.refusals.proofs.Joining.{join, tested}
-use Rattle.line.specs.Checks.{curveOutcome}
+use Rattle.line.specs.Checks.{curveChecks}
 use Rattle.line.proofs.checks.check_curve.Statement.{statement}
 use Rattle.line.proofs.checks.check_curve.Tie as tie
 
@@ -30,7 +30,7 @@ first-requires-2 : tie.Need-first-requires-2
 first-requires-2 c κs = tt
 
 returns : tie.Need-returns
-unfolding curveOutcome
+unfolding curveChecks
 returns c =
     let three = c .before .before in
     let two = three .before .before in

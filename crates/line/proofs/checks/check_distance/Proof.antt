@@ -1,6 +1,6 @@
 -- `check_distance`: the one `must` is the definition's `need`. Assumes nothing.
 use Rattle.refusals.proofs.Joining.{tested}
-use Rattle.line.specs.Checks.{distanceOutcome}
+use Rattle.line.specs.Checks.{distanceCheck}
 use Rattle.line.proofs.checks.check_distance.Statement.{statement}
 use Rattle.line.proofs.checks.check_distance.Tie as tie
 
@@ -11,7 +11,7 @@ must-requires : tie.Need-must-requires
 must-requires c κs = tt
 
 returns : tie.Need-returns
-unfolding distanceOutcome
+unfolding distanceCheck
 returns c = tested 8 (c .before .before .args .index) (c .must .ensures) (c .before .between .ensures)
 
 pub check-distance-spec : {M : Type 1} → statement M

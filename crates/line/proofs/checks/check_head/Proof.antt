@@ -4,7 +4,7 @@ use mathlib.Core.Bool.{Bool, _&&_}
 use Prim.Native.Nat.{_%_}
 use lib.Dec.{eqb}
 use Rattle.refusals.proofs.Joining.{join, tested}
-use Rattle.line.specs.Checks.{headOutcome}
+use Rattle.line.specs.Checks.{headChecks}
 use Rattle.line.proofs.checks.check_head.Statement.{statement}
 use Rattle.line.proofs.checks.check_head.Tie as tie
 
@@ -39,7 +39,7 @@ first-requires-3 : tie.Need-first-requires-3
 first-requires-3 c κs = tt
 
 returns : tie.Need-returns
-unfolding headOutcome
+unfolding headChecks
 returns c =
     let start = c .before .before .before in
     let fall = start .before in

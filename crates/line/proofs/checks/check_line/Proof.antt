@@ -1,7 +1,7 @@
 -- `check_line`: the head's refusal is the line's; where the head passes, there are 64 curves or fewer and the body decides. Assumes nothing.
 use mathlib.Core.Path.{sym, _∙_, ap}
 use Rattle.refusals.specs.Outcomes.{outcomeOf}
-use Rattle.line.specs.Checks.{lineOutcome}
+use Rattle.line.specs.Checks.{lineChecks}
 use Rattle.refusals.proofs.Joining.{refused-first, passed-first}
 use Rattle.line.proofs.InRange.{few-curves}
 use borrow.Author.Needs.{needs}
@@ -18,7 +18,7 @@ enum-told-2 : tie.Need-enum-told-2
 enum-told-2 c = search needs
 
 returns : tie.Need-returns
-unfolding lineOutcome
+unfolding lineChecks
 returns c = refused-first _ _ _ (c .enum-told2 .given .1) (c .before .before .check-head .ensures)
 
 check-body-requires : tie.Need-check-body-requires
@@ -26,7 +26,7 @@ check-body-requires c κs =
     few-curves _ _ _ _ (sym (c .before .before .check-head .ensures) ∙ ap outcomeOf (c .enum-told .given .1))
 
 returns-2 : tie.Need-returns-2
-unfolding lineOutcome
+unfolding lineChecks
 returns-2 c =
     c .check-body .ensures ∙ passed-first _ _ _ (c .before .enum-told .given .1) (c .before .before .before .check-head .ensures)
 

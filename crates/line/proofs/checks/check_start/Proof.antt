@@ -1,5 +1,5 @@
 -- `check_start`: the one `must` is the definition's `need`. Assumes nothing.
-use Rattle.line.specs.Checks.{startOutcome}
+use Rattle.line.specs.Checks.{startCheck}
 use Rattle.line.proofs.checks.check_start.Statement.{statement}
 use Rattle.line.proofs.checks.check_start.Tie as tie
 
@@ -7,7 +7,7 @@ must-requires : tie.Need-must-requires
 must-requires c κs = tt
 
 returns : tie.Need-returns
-unfolding startOutcome
+unfolding startCheck
 returns c = c .must .ensures
 
 pub check-start-spec : {M : Type 1} → statement M

@@ -6,13 +6,14 @@ use native.Mathlib.Omega.{arith}
 use lib.ListN.{length}
 use borrow.Author.Tests.{le-leb, lt-leb}
 use Rattle.refusals.specs.Outcomes.{refused}
-use Rattle.line_numbers.specs.Numbers.{numberAt, countOutcome}
+use Rattle.refusals.specs.Order.{outcome}
+use Rattle.line_numbers.specs.Numbers.{numberAt, countCheck}
 use borrow.Author.Needs.{needs}
 use Rattle.line_numbers.proofs.reader.check_count.Statement.{statement}
 use Rattle.line_numbers.proofs.reader.check_count.Tie as tie
 
-none-refused : (numbers : List ℕ) → length numbers < 1 → refused 3 0 ≡ countOutcome numbers
-unfolding countOutcome
+none-refused : (numbers : List ℕ) → length numbers < 1 → refused 3 0 ≡ outcome (countCheck numbers)
+unfolding countCheck
 none-refused [] h = refl
 none-refused (x ∷ xs) h = absurd (omega arith)
 
@@ -26,7 +27,7 @@ cast-n : tie.Need-cast-n
 cast-n c = omega (arith, c .shared-slice-known2 .given 0)
 
 returns-2 : tie.Need-returns-2
-unfolding countOutcome
+unfolding countCheck
 returns-2 c = rw (lt-leb (numberAt (c .before .before .before .before .args .numbers .now) 0) 64 (c .if2 .taken))
 
 mul-must : tie.Need-mul-must
@@ -39,7 +40,7 @@ must-requires : tie.Need-must-requires
 must-requires c κs = search needs
 
 returns-3 : tie.Need-returns-3
-unfolding countOutcome
+unfolding countCheck
 returns-3 c = rw (le-leb (numberAt (c .before .before .before .before .before .args .numbers .now) 0) 64 (c .before .if2 .left)) (c .must .ensures)
 
 pub check-count-spec : {M : Type 1} → statement M

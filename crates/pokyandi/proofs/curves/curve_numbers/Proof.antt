@@ -2,7 +2,7 @@
 use mathlib.Core.Path.{sym, _∙_, ap}
 use Rattle.elements.specs.Answer.{replyOf}
 use Rattle.elements.proofs.Replies.{found-elements, refused-elements}
-use Rattle.refusals.proofs.FillWays.{refused-reply}
+use Rattle.refusals.proofs.FillWays.{refused-fill}
 use Rattle.pokyandi.proofs.Replies.{found-reply}
 use borrow.Author.Needs.{needs}
 use Rattle.pokyandi.proofs.curves.curve_numbers.Statement.{statement}
@@ -33,7 +33,7 @@ returns c =
 returns-2 : tie.Need-returns-2
 returns-2 c =
     let told = sym (ap replyOf (c .before .answer2 .given .1)) ∙ c .before .before .before .curve-elements .ensures in
-    refused-reply _ _ _ (refused-elements _ _ _ (c .before .answer2 .given .0 .0) told)
+    refused-fill _ _ _ (refused-elements _ _ _ (c .before .answer2 .given .0 .0) told)
 
 pub curve-numbers-spec : {M : Type 1} → statement M
 curve-numbers-spec =

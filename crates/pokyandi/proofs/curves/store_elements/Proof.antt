@@ -3,17 +3,15 @@ use mathlib.Core.Path.{refl}
 use native.Mathlib.Omega.{arith}
 use lib.ListN.{length-set}
 use lib.Seq.{sets-eq}
-use Rattle.refusals.specs.Outcomes.{passed}
-use Rattle.refusals.proofs.FillWays.{too-small, filled-whole}
-use Rattle.refusals.specs.Filling.{withRoom, replyFor, bufferFor}
+use Rattle.refusals.specs.Order.{unchecked}
+use Rattle.refusals.proofs.FillWays.{small-fill, whole-fill}
 use Rattle.pokyandi.specs.Calls.{numbersOf}
 use borrow.Author.Needs.{needs}
 use Rattle.pokyandi.proofs.curves.store_elements.Statement.{statement}
 use Rattle.pokyandi.proofs.curves.store_elements.Tie as tie
 
 returns : tie.Need-returns
-unfolding replyFor bufferFor withRoom
-returns c = too-small passed (numbersOf _) _ 6 refl (c .if1 .taken)
+returns c = small-fill unchecked (numbersOf _) _ refl refl (c .if1 .taken)
 
 slice-write-numbers : tie.Need-slice-write-numbers
 slice-write-numbers c = search needs
@@ -37,10 +35,9 @@ same-length : tie.Need-same-length
 same-length c = search needs
 
 returns-2 : tie.Need-returns-2
-unfolding replyFor bufferFor withRoom
 returns-2 c =
     let numbers = c .before .args .numbers .now in
-    filled-whole passed (numbersOf (c .before .args .elements)) numbers 6 refl refl (omega (arith, c .if1 .left)) (sets-eq (numbersOf (c .before .args .elements)) numbers 0 (omega (arith, c .if1 .left)))
+    whole-fill unchecked (numbersOf (c .before .args .elements)) numbers refl refl (omega (arith, c .if1 .left)) (sets-eq (numbersOf (c .before .args .elements)) numbers 0 (omega (arith, c .if1 .left)))
 
 pub store-elements-spec : {M : Type 1} → statement M
 store-elements-spec =

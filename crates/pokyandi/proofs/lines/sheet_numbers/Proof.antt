@@ -1,7 +1,7 @@
 -- `sheet_numbers` meets its contract. Assumes nothing.
 use mathlib.Core.Path.{sym, _∙_, ap}
 use Rattle.refusals.specs.Outcomes.{outcomeOf}
-use Rattle.refusals.proofs.FillWays.{refused-reply}
+use Rattle.refusals.proofs.FillWays.{refused-fill}
 use Rattle.pokyandi.proofs.Replies.{numbers-reply}
 use borrow.Author.Needs.{needs}
 use Rattle.pokyandi.proofs.lines.sheet_numbers.Statement.{statement}
@@ -28,12 +28,14 @@ returns : tie.Need-returns
 returns c =
     let read = c .before .before .before .before .before .before .read .ensures in
     let passes = sym (read .0) ∙ ap outcomeOf (c .before .before .before .before .enum-told .given .1) in
-    numbers-reply _ passes (read .1) _ (c .before .before .write .ensures)
+    let told = numbers-reply _ passes (read .1 .0) _ (c .before .before .write .ensures) in
+    (told .0, (told .1, read .1 .1))
 
 returns-2 : tie.Need-returns-2
 returns-2 c =
-    let refusal = sym (c .before .before .before .read .ensures .0) ∙ ap outcomeOf (c .before .verdict .given .1) in
-    refused-reply _ _ _ refusal
+    let read = c .before .before .before .read .ensures in
+    let told = refused-fill _ _ _ (sym (read .0) ∙ ap outcomeOf (c .before .verdict .given .1)) in
+    (told .0, (told .1, read .1 .1))
 
 pub sheet-numbers-spec : {M : Type 1} → statement M
 sheet-numbers-spec =

@@ -1,7 +1,7 @@
 -- `rewrite_sheet` meets its contract. Assumes nothing.
 use mathlib.Core.Path.{sym, _∙_, ap}
 use Rattle.refusals.specs.Outcomes.{outcomeOf}
-use Rattle.refusals.proofs.FillWays.{refused-reply}
+use Rattle.refusals.proofs.FillWays.{refused-fill}
 use Rattle.pokyandi.proofs.Replies.{rewrite-reply}
 use borrow.Author.Needs.{needs}
 use Rattle.pokyandi.proofs.sheets.rewrite_sheet.Statement.{statement}
@@ -28,12 +28,12 @@ returns : tie.Need-returns
 returns c =
     let read = c .before .before .before .before .before .before .read .ensures in
     let passes = sym (read .0) ∙ ap outcomeOf (c .before .before .before .before .enum-told .given .1) in
-    rewrite-reply _ passes (read .1) _ (c .before .before .write .ensures)
+    rewrite-reply _ passes (read .1 .0) (read .1 .1) _ (c .before .before .write .ensures)
 
 returns-2 : tie.Need-returns-2
 returns-2 c =
     let refusal = sym (c .before .before .before .read .ensures .0) ∙ ap outcomeOf (c .before .verdict .given .1) in
-    refused-reply _ _ _ refusal
+    refused-fill _ _ _ refusal
 
 pub rewrite-sheet-spec : {M : Type 1} → statement M
 rewrite-sheet-spec =

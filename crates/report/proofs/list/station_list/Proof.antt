@@ -1,8 +1,10 @@
 -- `station_list` meets its contract. Assumes nothing.
-use mathlib.Core.Path.{sym, _∙_}
+use mathlib.Core.Path.{refl, sym, _∙_}
 use borrow.Author.Needs.{needs}
 use borrow.Author.Tests.{leb-true, leb-false}
-use Rattle.report.proofs.WaysOut.{text-too-long, text-whole}
+use Rattle.refusals.specs.Order.{unchecked}
+use Rattle.refusals.proofs.FillWays.{small-fill}
+use Rattle.report.proofs.WaysOut.{text-whole}
 use Rattle.report.proofs.list.station_list.Statement.{statement}
 use Rattle.report.proofs.list.station_list.Tie as tie
 
@@ -23,7 +25,7 @@ returns c =
 returns-2 : tie.Need-returns-2
 returns-2 c =
     let start = c .before .before .before .before in
-    text-too-long _ (start .args .text .now) (leb-false _ _ (sym (c .before .list-fits .ensures) ∙ c .if1 .left))
+    small-fill unchecked _ (start .args .text .now) refl refl (leb-false _ _ (sym (c .before .list-fits .ensures) ∙ c .if1 .left))
 
 pub station-list-spec : {M : Type 1} → statement M
 station-list-spec =

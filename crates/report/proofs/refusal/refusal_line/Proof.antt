@@ -1,5 +1,5 @@
 -- `refusal_line` meets its contract. Assumes nothing.
-use mathlib.Core.Path.{_≡_, ap}
+use mathlib.Core.Path.{_≡_, refl, ap}
 use Prim.Native.Nat.{ℕ}
 use native.Mathlib.Omega.{arith}
 use borrow.Author.Needs.{needs}
@@ -9,7 +9,9 @@ use Rattle.report.specs.Numbers.{decimal}
 use Rattle.report.specs.Text.{refusalLine}
 use Rattle.report.proofs.Lengths.{refusal-length}
 use Rattle.report.proofs.Pieces.{wrote-as}
-use Rattle.report.proofs.WaysOut.{text-too-long, text-whole}
+use Rattle.refusals.specs.Order.{unchecked}
+use Rattle.refusals.proofs.FillWays.{small-fill}
+use Rattle.report.proofs.WaysOut.{text-whole}
 use Rattle.report.proofs.refusal.refusal_line.Statement.{statement}
 use Rattle.report.proofs.refusal.refusal_line.Tie as tie
 
@@ -41,7 +43,7 @@ returns : tie.Need-returns
 returns c =
     let start = c .before .before .before .before .before .before in
     let refusal = start .args .refusal in
-    text-too-long (refusalLine (numberOf refusal) (placeOf refusal)) (start .args .text .now)
+    small-fill unchecked (refusalLine (numberOf refusal) (placeOf refusal)) (start .args .text .now) refl refl
     (omega (
       arith,
       refusal-length (numberOf refusal) (placeOf refusal),

@@ -16,7 +16,7 @@ blank-line-requires c κs = search needs
 returns : tie.Need-returns
 returns c =
     let answer = frame-refused firstEdition _ (Refused Truncated) (no-head firstEdition _ (c .before .if1 .taken)) refl in
-    (answer, line-beside firstEdition _ (Refused Truncated) answer refl (c .blank-line .ensures))
+    (answer, (line-beside firstEdition _ (Refused Truncated) answer refl (c .blank-line .ensures), λ i. c .before .before .shared-slice-known .given i .fits))
 
 read-head-requires : tie.Need-read-head-requires
 read-head-requires c κs = search needs
@@ -37,7 +37,7 @@ returns-2 : tie.Need-returns-2
 returns-2 c =
     let told = c .before .enum-told2 .given .1 in
     let answer = frame-refused firstEdition _ _ (c .before .before .before .check-frame .ensures) told in
-    (answer, line-beside firstEdition _ _ answer told (c .blank-line2 .ensures))
+    (answer, (line-beside firstEdition _ _ answer told (c .blank-line2 .ensures), λ i. c .before .before .before .before .before .before .shared-slice-known .given i .fits))
 
 read-line-requires : tie.Need-read-line-requires
 read-line-requires c κs = (sym (c .before .before .check-frame .ensures) ∙ ap outcomeOf (c .enum-told .given .1), c .before .before .before .read-head .ensures)
@@ -59,14 +59,14 @@ returns-3 c =
     let told = c .before .enum-told4 .given .1 in
     let answer =
     line-checked firstEdition _ _ (c .before .before .before .before .before .before .before .check-frame .ensures) (c .before .before .before .before .before .enum-told .given .1) (c .before .before .before .before .read-line .ensures) (c .before .before .before .check-line .ensures) in
-    (answer, line-beside firstEdition _ _ answer told (c .blank-line3 .ensures))
+    (answer, (line-beside firstEdition _ _ answer told (c .blank-line3 .ensures), λ i. c .before .before .before .before .before .before .before .before .before .before .shared-slice-known .given i .fits))
 
 returns-4 : tie.Need-returns-4
 returns-4 c =
     let told = c .enum-told3 .given .1 in
     let line = c .before .before .before .read-line .ensures in
     let answer = line-checked firstEdition _ _ (c .before .before .before .before .before .before .check-frame .ensures) (c .before .before .before .before .enum-told .given .1) line (c .before .before .check-line .ensures) in
-    (answer, line-beside firstEdition _ _ answer told line)
+    (answer, (line-beside firstEdition _ _ answer told line, λ i. c .before .before .before .before .before .before .before .before .before .shared-slice-known .given i .fits))
 
 pub read-spec : {M : Type 1} → statement M
 read-spec =

@@ -4,10 +4,11 @@ use native.Mathlib.Omega.{arith}
 use borrow.Author.Needs.{needs}
 use Rattle.refusals.specs.Outcomes.{outcomeOf}
 use Rattle.refusals.specs.Filling.{filled}
-use Rattle.refusals.proofs.FillWays.{refused-by-checks, too-small, filled-whole}
+use Rattle.refusals.proofs.FillWays.{refused-fill, small-fill, whole-fill}
+use Rattle.line.specs.Checks.{lineChecks}
 use Rattle.line.proofs.InRange.{line-in-range}
 use Rattle.packed_sheet.specs.Layout.{firstEdition}
-use Rattle.packed_sheet.specs.Writing.{sheetOf, writeOutcome, writeAnswer, writeBytes}
+use Rattle.packed_sheet.specs.Writing.{sheetOf, sheetIn}
 use Rattle.packed_sheet.proofs.WaysOut.{sheet-length}
 use Rattle.sheet.proofs.writer.write.Statement.{statement}
 use Rattle.sheet.proofs.writer.write.Tie as tie
@@ -25,33 +26,33 @@ byte-count-requires : tie.Need-byte-count-requires
 byte-count-requires c κs = omega (arith, line-in-range _ (sym (c .before .before .check-line .ensures) ∙ ap outcomeOf (c .enum-told .given .1)) .few)
 
 returns : tie.Need-returns
-unfolding writeAnswer writeBytes writeOutcome
+unfolding sheetIn
 returns c =
     let start = c .before .before .before .before .before .before in
     let checked = sym (c .before .before .before .before .check-line .ensures) ∙ ap outcomeOf (c .before .before .enum-told .given .1) in
-    too-small _ (sheetOf firstEdition (start .args .line)) (start .args .bytes .now) _ checked (omega (arith, c .before .byte-count .ensures, c .if1 .taken))
+    small-fill (lineChecks (start .args .line)) (sheetOf firstEdition (start .args .line)) (start .args .bytes .now) checked (sheet-length firstEdition (start .args .line)) (omega (arith, c .before .byte-count .ensures, c .if1 .taken))
 
 write-sheet-requires : tie.Need-write-sheet-requires
 write-sheet-requires c κs =
     (sym (c .before .before .before .before .before .check-line .ensures) ∙ ap outcomeOf (c .before .before .before .enum-told .given .1), omega (arith, c .before .before .byte-count .ensures, c .before .if1 .left))
 
 returns-2 : tie.Need-returns-2
-unfolding writeAnswer writeBytes writeOutcome
+unfolding sheetIn
 returns-2 c =
     let start = c .before .before .before .before .before in
-    refused-by-checks _ (sheetOf firstEdition (start .args .line)) (start .args .bytes .now) _ (c .before .before .before .check-line .result) (c .before .before .before .check-line .ensures) (c .before .verdict .given .1)
+    refused-fill (lineChecks (start .args .line)) (sheetOf firstEdition (start .args .line)) (start .args .bytes .now) (sym (c .before .before .before .check-line .ensures) ∙ ap outcomeOf (c .before .verdict .given .1))
 
 same-length : tie.Need-same-length
 same-length c = search needs
 
 returns-3 : tie.Need-returns-3
-unfolding writeAnswer writeBytes writeOutcome
+unfolding sheetIn
 returns-3 c =
     let start = c .before .before .before .before .before .before .before .before .before .before in
     let line = start .args .line in
     let checked = sym (c .before .before .before .before .before .before .before .before .check-line .ensures) ∙ ap outcomeOf (c .before .before .before .before .before .before .enum-told .given .1) in
     let size = c .before .before .before .before .before .byte-count .ensures in
-    let all = filled-whole _ (sheetOf firstEdition line) (start .args .bytes .now) _ checked (sheet-length firstEdition line) (omega (arith, size, c .before .before .before .before .if1 .left)) (c .before .before .write-sheet .ensures) in
+    let all = whole-fill (lineChecks line) (sheetOf firstEdition line) (start .args .bytes .now) checked (sheet-length firstEdition line) (omega (arith, size, c .before .before .before .before .if1 .left)) (c .before .before .write-sheet .ensures) in
     (ap filled size ∙ all .0, all .1)
 
 pub write-spec : {M : Type 1} → statement M
