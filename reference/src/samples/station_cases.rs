@@ -56,7 +56,7 @@ pub fn document_cases() -> Vec<NamedSheet> {
 fn refused_sheets() -> Vec<NamedSheet> {
     let line = sheet_of(&Line::case_1());
     let road = sheet_of(&mountain_road());
-    let longer = [&road[..], &[0; 14]].concat();
+    let longer = [&road[..], &[0; 2]].concat();
     let case_1 = |field: Field, value| field.with(&line, value);
     let road = |field: Field, value| field.with(&road, value);
     let last = MOST_CURVES;
@@ -86,14 +86,17 @@ fn named(name: &'static str, sheet: Vec<u8>) -> NamedSheet {
 #[cfg(test)]
 mod tests {
     use super::*;
-    use crate::report::row;
+    use crate::report::{row, MOST_READ};
     use std::collections::BTreeSet;
+
+    fn sheet(name: &str) -> Vec<u8> {
+        let mut sheets = named_sheets().into_iter();
+        sheets.find(|sheet| sheet.name == name).unwrap().sheet
+    }
 
     /// Number and place of the refusal of the sheet with this name.
     fn refusal(name: &str) -> Option<(u8, usize)> {
-        let sheets = named_sheets();
-        let found = sheets.iter().find(|sheet| sheet.name == name).unwrap();
-        let refusal = row(&found.sheet).err()?;
+        let refusal = row(&sheet(name)).err()?;
         Some((refusal.number, refusal.place))
     }
 
@@ -128,6 +131,14 @@ mod tests {
         }
         assert_eq!(refusal("empty"), Some((1, 0)));
         assert_eq!(refusal("mountain-road"), None);
+    }
+
+    /// A program that reads one byte fewer accepts it.
+    #[test]
+    fn refusal_7_is_longer_than_what_is_read() {
+        let longer = sheet("refusal-07");
+        assert_eq!(longer.len(), MOST_READ + 1);
+        assert_eq!(longer[..MOST_READ - 1], sheet("mountain-road"));
     }
 
     #[test]
