@@ -10,14 +10,15 @@ use lib.IntN.{pos}
 use lib.Signed.{leZ}
 use Rattle.refusals.specs.Order.{First}
 use Rattle.refusals.specs.Filling.{withRoom}
-use Rattle.refusals.proofs.InOrder.{held, refused-in-order}
+use Rattle.refusals.proofs.InOrder.{held}
+use Rattle.refusals.proofs.Numbers.{first-numbers}
 use Rattle.line.specs.declared.Line.{Line}
 use Rattle.line.specs.Checks.{lineChecks}
 use Rattle.line.specs.Ranges.{LineInRange}
 use Rattle.line.proofs.InRange.{line-in-range}
 use Rattle.line.proofs.Numbers.{line-numbers}
 use Rattle.elements.specs.Answer.{arcCheck}
-use Rattle.stationing.specs.Stations.{arcAt, straightAt}
+use Rattle.stationing.specs.Stations.{arcAt}
 use Rattle.stationing.specs.Answer.{designChecks, designChecksAt, straightCheck, alignmentChecks}
 use Rattle.accuracy.specs.Accuracy.{refusedStraight, refusedArc, ShortStraight, ShortArc}
 use Rattle.accuracy.proofs.NearStations.{near-arc-at, near-straight}
@@ -35,8 +36,8 @@ other h k = record { straight-short = λ e. absurd (h e); arc-short = λ e. absu
 module _ (n : ℕ) (seven : 7 ≤ n) (line : Line) {number place : ℕ} where
   by-fields : First (lineChecks line) number place → Refused n line number place
   by-fields f =
-      let least = line-numbers line .number number place (refused-in-order (lineChecks line) f) in
-      other (λ e. omega (arith, least .1)) (λ e. omega (arith, least .1))
+      let told = first-numbers 3 11 (line .count) (lineChecks line) (line-numbers line) f in
+      other (λ e. omega (arith, told .1)) (λ e. omega (arith, told .1))
 
   module _ (ok : LineInRange line) (i : ℕ) where
     short-arc : i < line .count → (leZ (pos 1000) (arcAt line i) ≡ false) × (14 ≡ number) × (suc i ≡ place) → Refused n line number place

@@ -6,7 +6,7 @@ use Prim.Native.Nat.{ℕ, _*_}
 use native.Mathlib.Nat.{zero-mul}
 use native.Mathlib.Omega.{arith}
 use lib.IntN.{ℤ, pos, _*ℤ_}
-use lib.ListN.{length, getD}
+use lib.ListN.{getD}
 use Rattle.refusals.specs.Filling.{filled}
 use Rattle.line.specs.declared.Line.{Line}
 use Rattle.stationing.specs.Answer.{stationsIn}

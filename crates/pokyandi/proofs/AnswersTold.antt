@@ -12,8 +12,9 @@ use lib.Signed.{leZ}
 use Rattle.refusals.specs.Outcomes.{Outcome, passed, refused, need}
 use Rattle.refusals.specs.Filling.{FillReply, filled, unfilled, countAfter, withRoom, fill}
 use Rattle.refusals.specs.Order.{Checks, unchecked, outcome}
-use Rattle.refusals.proofs.Numbers.{Refuses, one-number, numbers-after, joined-numbers, wider}
-use Rattle.refusals.proofs.Joining.{never, passed-left, passed-right}
+use Rattle.refusals.proofs.Numbers.{Refuses, refusal-numbers, wider}
+use Rattle.refusals.proofs.InOrder.{held}
+use Rattle.refusals.proofs.Joining.{passed-left, passed-right}
 use Rattle.line.specs.Checks.{curveChecks, lineChecks}
 use Rattle.line.proofs.InRange.{line-in-range}
 use Rattle.line.proofs.Numbers.{curve-numbers, line-numbers}
@@ -45,33 +46,28 @@ Told (unfilled number place) =
     × (number ≤ 16)
 
 -- A count of at most 32 bits, or a refusal of those numbers, whose place is small.
-outcome-told : (o : Outcome) (count : ℕ) → Refuses 1 16 127 o → (o ≡ passed → count < 2 ^ 32) → Told (countAfter o count)
+outcome-told : (checks : Checks) (o : Outcome) (count : ℕ) → Refuses 1 16 127 checks → outcome checks ≡ o → (o ≡ passed → count < 2 ^ 32) → Told (countAfter o count)
 unfolding answerNumber
-outcome-told passed count r h = let small = h refl in (omega arith, omega arith)
-outcome-told (refused n p) count r h =
-    let place = r .place n p refl in
-    (omega arith, omega arith, r .number n p refl .0, r .number n p refl .1)
+outcome-told checks passed count r e h = let small = h refl in (omega arith, omega arith)
+outcome-told checks (refused n p) count r e h =
+    let told = refusal-numbers 1 16 127 checks r e in
+    (omega (arith, told .2), omega (arith, told .2), told .0, told .1)
 
-reply-told : (checks : Checks) (content lent : List ℕ) → Refuses 1 16 127 (outcome checks) → (outcome checks ≡ passed → length content < 2 ^ 32)
+reply-told : (checks : Checks) (content lent : List ℕ) → Refuses 1 16 127 checks → (outcome checks ≡ passed → length content < 2 ^ 32)
     → Told (fill checks content lent .reply)
 unfolding fill withRoom
 reply-told checks content lent r h =
-    let small = need (leb (length content) (length lent)) 16 0 in
-    outcome-told (outcome (withRoom checks content lent)) (length content)
-    (joined-numbers (outcome checks) small r (one-number (leb (length content) (length lent)) 16 0 (omega arith) (omega arith) (omega arith)))
-    (λ e. h (passed-left (outcome checks) small e))
-
-nothing-refused : Refuses 1 16 127 passed
-nothing-refused = record { number = λ n p e. never n p e; place = λ n p e. never n p e }
+    outcome-told (withRoom checks content lent) (outcome (withRoom checks content lent)) (length content) (r, λ _. (omega arith, omega arith, omega arith)) refl
+    (λ e. h (passed-left (outcome checks) _ e))
 
 -- ---- the calls
 
 module _ (sheet : List ℕ) where
-  numbers : Refuses 1 16 127 (outcome (sheetChecks sheet))
-  numbers = wider (outcome (sheetChecks sheet)) (sheet-numbers sheet) (omega arith) (omega arith) (omega arith)
+  sheet-few : Refuses 1 16 127 (sheetChecks sheet)
+  sheet-few = wider (sheetChecks sheet) (sheet-numbers sheet) (omega arith) (omega arith) (omega arith)
 
-  read-few : Refuses 1 16 127 (outcome (readChecks firstEdition sheet))
-  read-few = wider (outcome (readChecks firstEdition sheet)) (read-numbers firstEdition sheet) (omega arith) (omega arith) (omega (arith, count-below firstEdition sheet refl))
+  read-few : Refuses 1 16 127 (readChecks firstEdition sheet)
+  read-few = wider (readChecks firstEdition sheet) (read-numbers firstEdition sheet) (omega arith) (omega arith) (omega (arith, count-below firstEdition sheet refl))
 
   stations-few : outcome (sheetChecks sheet) ≡ passed → length (sheetStations sheet) < 2 ^ 32
   unfolding sheetChecks sheetStations
@@ -80,11 +76,11 @@ module _ (sheet : List ℕ) where
       omega (arith, row-count line, few line (passed-right (outcome (readChecks firstEdition sheet)) (outcome (alignmentChecks line)) e))
 
   pub stations-told : (lent : List ℕ) → Told (fill (sheetChecks sheet) (sheetStations sheet) lent .reply)
-  stations-told lent = reply-told (sheetChecks sheet) (sheetStations sheet) lent numbers stations-few
+  stations-told lent = reply-told (sheetChecks sheet) (sheetStations sheet) lent sheet-few stations-few
 
   pub check-told : Told (checkReply sheet)
   unfolding checkReply
-  check-told = outcome-told (outcome (sheetChecks sheet)) (length (sheetStations sheet)) numbers stations-few
+  check-told = outcome-told (sheetChecks sheet) (outcome (sheetChecks sheet)) (length (sheetStations sheet)) sheet-few refl stations-few
 
   -- The sheet's own bytes are as many as n calls for, or there is a refusal.
   pub rewrite-told : (lent : List ℕ) → Told (fill (readChecks firstEdition sheet) sheet lent .reply)
@@ -101,24 +97,19 @@ module _ (sheet : List ℕ) where
       (λ e. omega (arith, line-length line, line-in-range line (accepted-line E sheet e) .few))
 
   pub text-told : (lent : List ℕ) → Told (fill unchecked (sheetText sheet) lent .reply)
-  text-told lent = reply-told unchecked (sheetText sheet) lent nothing-refused (λ e. omega (arith, fits sheet))
+  text-told lent = reply-told unchecked (sheetText sheet) lent tt (λ e. omega (arith, fits sheet))
 
-pub write-told : (numbers : List ℕ) (lent : List ℕ) → Told (fill (numbersChecks numbers) (numbersSheet numbers) lent .reply)
+pub write-told : (numbers lent : List ℕ) → Told (fill (numbersChecks numbers) (numbersSheet numbers) lent .reply)
 unfolding numbersChecks numbersSheet countCheck lineOf
 write-told numbers lent =
-    let n = numberAt numbers 0 in
     let line = lineOf numbers in
     reply-told (numbersChecks numbers) (numbersSheet numbers) lent
-    (numbers-after (outcome (countCheck numbers)) (outcome (lineChecks line))
-    (one-number (leb n 64 && eqb (length numbers) (numberCount n)) 3 0 (omega arith) (omega arith) (omega arith))
-    (λ e. wider (outcome (lineChecks line)) (line-numbers line) (omega arith) (omega arith) (omega (arith, few-counted numbers e))))
+    ((omega arith, omega arith, omega arith), λ h. wider (lineChecks line) (line-numbers line) (omega arith) (omega arith) (omega (arith, few-counted numbers (held (countCheck numbers) h))))
     (λ e. omega (arith, sheet-length firstEdition line, few-counted numbers (passed-left (outcome (countCheck numbers)) _ e)))
 
 pub elements-told : (A R L : ℕ) (lent : List ℕ) → Told (fill (elementChecks A R L) (elementNumbers A R L) lent .reply)
 unfolding elementChecks arcCheck elementNumbers elementValues
 elements-told A R L lent =
     reply-told (elementChecks A R L) (elementNumbers A R L) lent
-    (joined-numbers (outcome (curveChecks A R L 0)) (outcome (arcCheck A R L 0))
-    (wider (outcome (curveChecks A R L 0)) (curve-numbers {far = 0} A R L 0 (omega arith)) (omega arith) (omega arith) (omega arith))
-    (one-number (leZ (pos 1000) (arcOf A R L)) 14 0 (omega arith) (omega arith) (omega arith)))
+    (wider (curveChecks A R L 0) (curve-numbers 0 A R L 0 (omega arith)) (omega arith) (omega arith) (omega arith), λ _. (omega arith, omega arith, omega arith))
     (λ e. omega arith)

@@ -1,49 +1,34 @@
--- The numbers and places that a check's refusals can have. Assumes nothing.
+-- The numbers and places that refusals can have. Assumes nothing.
 use mathlib.Core.Path.{_≡_}
 use mathlib.Core.Logic.{⊎-elim}
-use mathlib.Core.Bool.{Bool}
-use Prim.Native.Nat.{ℕ, zero, suc, _≤_, _<_}
+use Prim.Native.Nat.{ℕ, _<_, _≤_}
 use native.Mathlib.Omega.{arith}
-use Rattle.refusals.specs.Outcomes.{Outcome, passed, refused, need, _▹_, firstOf}
-use Rattle.refusals.specs.Order.{Checks, inTurn, outcome}
-use Rattle.refusals.proofs.Joining.{never, refused-by, need-refused}
+use Rattle.refusals.specs.Outcomes.{refused}
+use Rattle.refusals.specs.Order.{Checks, unchecked, check, _⨾_, inTurn, outcome, Hold, First}
+use Rattle.refusals.proofs.InOrder.{first-in-order}
 
--- A refusal has a number from `least` to `most`, and a place up to `far`.
-pub record Refuses (least most far : ℕ) (o : Outcome) : Type 0 where
-  pub number : (n p : ℕ) → o ≡ refused n p → (least ≤ n) × (n ≤ most)
-  pub place : (n p : ℕ) → o ≡ refused n p → p ≤ far
+-- Each check has a number from `least` to `most` and a place up to `far`, a later one wherever those before it hold.
+abbrev pub Refuses : (least most far : ℕ) → Checks → Type 0
+Refuses least most far unchecked = Unit {0}
+Refuses least most far (check holds number place) = (least ≤ number) × (number ≤ most) × (place ≤ far)
+Refuses least most far (a ⨾ b) = Refuses least most far a × (Hold a → Refuses least most far b)
+Refuses least most far (inTurn each count) = (i : ℕ) → i < count → Refuses least most far (each i)
 
-pub one-number : (t : Bool) (m q : ℕ) {least most far : ℕ} → least ≤ m → m ≤ most → q ≤ far → Refuses least most far (need t m q)
-one-number t m q l h f =
-    record {
-      number = λ n p e. let same = need-refused t m q e .1 in (omega (arith, same), omega (arith, same));
-      place = λ n p e. omega (arith, need-refused t m q e .2);
-    }
+module _ (least most far : ℕ) where
+  pub first-numbers : (c : Checks) {n p : ℕ} → Refuses least most far c → First c n p → (least ≤ n) × (n ≤ most) × (p ≤ far)
+  first-numbers unchecked r f = absurd f
+  first-numbers (check holds number place) r f = (omega (arith, r .0, f .1), omega (arith, r .1, f .1), omega (arith, r .2, f .2))
+  first-numbers (a ⨾ b) r f = ⊎-elim (first-numbers a (r .0)) (λ q. first-numbers b (r .1 (q .0)) (q .1)) f
+  first-numbers (inTurn each count) r f = first-numbers (each (f .index)) (r (f .index) (f .below)) (f .here)
 
-module _ {least most far : ℕ} where
-  -- The second is asked only where the first passes.
-  pub numbers-after : (a b : Outcome) → Refuses least most far a → (a ≡ passed → Refuses least most far b) → Refuses least most far (a ▹ b)
-  numbers-after a b f g =
-      record {
-        number = λ n p e. ⊎-elim (λ q. f .number n p q) (λ q. g (q .0) .number n p (q .1)) (refused-by a b e);
-        place = λ n p e. ⊎-elim (λ q. f .place n p q) (λ q. g (q .0) .place n p (q .1)) (refused-by a b e);
-      }
-
-  pub joined-numbers : (a b : Outcome) → Refuses least most far a → Refuses least most far b → Refuses least most far (a ▹ b)
-  joined-numbers a b f g = numbers-after a b f (λ e. g)
-
-  pub numbers-in-turn : (each : ℕ → Checks) (count : ℕ) → ((i : ℕ) → i < count → Refuses least most far (outcome (each i)))
-      → Refuses least most far (outcome (inTurn each count))
-  unfolding firstOf
-  numbers-in-turn each zero all = record { number = λ n p e. never n p e; place = λ n p e. never n p e }
-  numbers-in-turn each (suc i) all =
-      joined-numbers (outcome (inTurn each i)) (outcome (each i)) (numbers-in-turn each i (λ k h. all k (omega arith))) (all i (omega arith))
+  -- And so has a refusal.
+  pub refusal-numbers : (c : Checks) {n p : ℕ} → Refuses least most far c → outcome c ≡ refused n p → (least ≤ n) × (n ≤ most) × (p ≤ far)
+  refusal-numbers c r e = first-numbers c r (first-in-order c e)
 
 -- Wider limits.
-pub wider : (o : Outcome) {least most far least′ most′ far′ : ℕ} → Refuses least most far o → least′ ≤ least → most ≤ most′ → far ≤ far′
-    → Refuses least′ most′ far′ o
-wider o r l m f =
-    record {
-      number = λ n p e. (omega (arith, r .number n p e .0), omega (arith, r .number n p e .1));
-      place = λ n p e. omega (arith, r .place n p e);
-    }
+pub wider : (c : Checks) {least most far least′ most′ far′ : ℕ} → Refuses least most far c → least′ ≤ least → most ≤ most′ → far ≤ far′
+    → Refuses least′ most′ far′ c
+wider unchecked r l m f = tt
+wider (check holds number place) r l m f = (omega (arith, r .0), omega (arith, r .1), omega (arith, r .2))
+wider (a ⨾ b) r l m f = (wider a (r .0) l m f, λ h. wider b (r .1 h) l m f)
+wider (inTurn each count) r l m f = λ i h. wider (each i) (r i h) l m f

@@ -6,10 +6,10 @@ use native.Mathlib.Omega.{arith}
 use lib.ListN.{length}
 use Rattle.refusals.specs.Outcomes.{Outcome, passed, refused}
 use Rattle.refusals.specs.Filling.{unfilled, fill}
-use Rattle.refusals.specs.Order.{unchecked, outcome}
+use Rattle.refusals.specs.Order.{Checks, unchecked, outcome}
 use Rattle.refusals.proofs.Filled.{never}
 use Rattle.refusals.proofs.FillWays.{whole-fill}
-use Rattle.refusals.proofs.Numbers.{Refuses, joined-numbers, wider}
+use Rattle.refusals.proofs.Numbers.{Refuses, refusal-numbers, wider}
 use Rattle.refusals.proofs.Joining.{passed-right}
 use Rattle.line.specs.declared.Line.{Line}
 use Rattle.line.specs.Entries.{lineAfter}
@@ -27,12 +27,12 @@ use Rattle.report.proofs.Short.{list-short, refusal-short}
 use Rattle.station_report.specs.Report.{answerText, sheetChecks, sheetText}
 
 -- The text of an answer, where a refusal has few digits and a row that passes is one that was accepted.
-text-short : (line : Line) (o : Outcome) → Refuses 1 15 127 o → (o ≡ passed → outcome (alignmentChecks line) ≡ passed)
+text-short : (line : Line) (checks : Checks) (o : Outcome) → Refuses 1 15 127 checks → outcome checks ≡ o → (o ≡ passed → outcome (alignmentChecks line) ≡ passed)
     → length (answerText o (stationRow line)) ≤ 5417
-text-short line passed r a =
+text-short line checks passed r e a =
     let accepted = a refl in
     list-short (stationRow line) (omega (arith, row-count line, few line accepted)) (λ k. omega (arith, in-order line accepted .most k))
-text-short line (refused n p) r a = omega (arith, refusal-short n p (omega (arith, r .number n p refl .1)) (omega (arith, r .place n p refl)))
+text-short line checks (refused n p) r e a = let told = refusal-numbers 1 15 127 checks r e in omega (arith, refusal-short n p (omega (arith, told .1)) (omega (arith, told .2)))
 
 -- n has seven bits.
 count-short : (line : Line) (o : Outcome) → line .count < 128 → lineAfter o line .count ≤ 127
@@ -40,21 +40,23 @@ count-short line passed h = omega arith
 count-short line (refused n p) h = omega arith
 
 -- The refusals of reader and calculator are 1 to 15, and no place has more than seven bits.
-pub sheet-numbers : (sheet : List ℕ) → Refuses 1 15 127 (outcome (sheetChecks sheet))
+pub sheet-numbers : (sheet : List ℕ) → Refuses 1 15 127 (sheetChecks sheet)
 unfolding sheetChecks readLine lineOf
 sheet-numbers sheet =
-    let read = outcome (readChecks firstEdition sheet) in
-    let line = readLine firstEdition sheet in
-    let seven-bits = count-below firstEdition sheet refl in
-    joined-numbers read (outcome (alignmentChecks line))
-    (wider read (read-numbers firstEdition sheet) (omega arith) (omega arith) (omega arith))
-    (wider (outcome (alignmentChecks line)) (alignment-numbers line) (omega arith) (omega arith) (count-short (lineOf firstEdition sheet) read seven-bits))
+    let E = firstEdition in
+    let read = readChecks E sheet in
+    let line = readLine E sheet in
+    let seven-bits = count-below E sheet refl in (
+      wider read (read-numbers E sheet) (omega arith) (omega arith) (omega arith),
+      λ _. wider (alignmentChecks line) (alignment-numbers line) (omega arith) (omega arith) (count-short (lineOf E sheet) (outcome read) seven-bits),
+    )
 
 pub fits : (sheet : List ℕ) → length (sheetText sheet) ≤ 5417
 unfolding sheetText sheetChecks
 fits sheet =
     let line = readLine firstEdition sheet in
-    text-short line (outcome (sheetChecks sheet)) (sheet-numbers sheet) (passed-right (outcome (readChecks firstEdition sheet)) (outcome (alignmentChecks line)))
+    text-short line (sheetChecks sheet) (outcome (sheetChecks sheet)) (sheet-numbers sheet) refl
+    (passed-right (outcome (readChecks firstEdition sheet)) (outcome (alignmentChecks line)))
 
 -- So many lent bytes are never refused.
 pub never-refused : (sheet lent : List ℕ) {n p : ℕ} {A : Type 0} → fill unchecked (sheetText sheet) lent .reply ≡ unfilled n p → 5417 ≤ length lent → A

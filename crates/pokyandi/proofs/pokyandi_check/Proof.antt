@@ -8,8 +8,6 @@ use Rattle.pokyandi.proofs.Replies.{check-reply}
 use borrow.Author.Needs.{needs}
 use Rattle.pokyandi.proofs.pokyandi_check.Statement.{statement}
 use Rattle.pokyandi.proofs.pokyandi_check.Tie as tie
-use Rattle.pokyandi.proofs.answer.answer_number.Reads as answer-number-reads
-use Rattle.pokyandi.proofs.sheets.sheet_stations.Reads as sheet-stations-reads
 
 slice-aggregate-sheet-stations : tie.Need-slice-aggregate-sheet-stations
 slice-aggregate-sheet-stations c = search needs

@@ -4,8 +4,6 @@ use Rattle.pokyandi.specs.Answers.{answerNumber}
 use borrow.Author.Needs.{needs}
 use Rattle.pokyandi.proofs.pokyandi_elements.Statement.{statement}
 use Rattle.pokyandi.proofs.pokyandi_elements.Tie as tie
-use Rattle.pokyandi.proofs.answer.answer_number.Reads as answer-number-reads
-use Rattle.pokyandi.proofs.curves.curve_numbers.Reads as curve-numbers-reads
 
 curve-numbers-requires : tie.Need-curve-numbers-requires
 curve-numbers-requires c κs = search needs

@@ -4,8 +4,6 @@ use Rattle.pokyandi.specs.Answers.{answerNumber}
 use borrow.Author.Needs.{needs}
 use Rattle.pokyandi.proofs.pokyandi_read.Statement.{statement}
 use Rattle.pokyandi.proofs.pokyandi_read.Tie as tie
-use Rattle.pokyandi.proofs.answer.answer_number.Reads as answer-number-reads
-use Rattle.pokyandi.proofs.lines.sheet_numbers.Reads as sheet-numbers-reads
 
 sheet-numbers-requires : tie.Need-sheet-numbers-requires
 sheet-numbers-requires c κs = search needs

@@ -4,8 +4,6 @@ use Rattle.pokyandi.specs.Answers.{answerNumber}
 use borrow.Author.Needs.{needs}
 use Rattle.pokyandi.proofs.pokyandi_rewrite.Statement.{statement}
 use Rattle.pokyandi.proofs.pokyandi_rewrite.Tie as tie
-use Rattle.pokyandi.proofs.answer.answer_number.Reads as answer-number-reads
-use Rattle.pokyandi.proofs.sheets.rewrite_sheet.Reads as rewrite-sheet-reads
 
 rewrite-sheet-requires : tie.Need-rewrite-sheet-requires
 rewrite-sheet-requires c κs = search needs

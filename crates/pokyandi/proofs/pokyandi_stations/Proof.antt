@@ -4,8 +4,6 @@ use Rattle.pokyandi.specs.Answers.{answerNumber}
 use borrow.Author.Needs.{needs}
 use Rattle.pokyandi.proofs.pokyandi_stations.Statement.{statement}
 use Rattle.pokyandi.proofs.pokyandi_stations.Tie as tie
-use Rattle.pokyandi.proofs.answer.answer_number.Reads as answer-number-reads
-use Rattle.pokyandi.proofs.sheets.sheet_stations.Reads as sheet-stations-reads
 
 sheet-stations-requires : tie.Need-sheet-stations-requires
 sheet-stations-requires c κs = search needs

@@ -4,8 +4,6 @@ use Rattle.pokyandi.specs.Answers.{answerNumber}
 use borrow.Author.Needs.{needs}
 use Rattle.pokyandi.proofs.pokyandi_text.Statement.{statement}
 use Rattle.pokyandi.proofs.pokyandi_text.Tie as tie
-use Rattle.pokyandi.proofs.answer.answer_number.Reads as answer-number-reads
-use Rattle.station_report.proofs.report_sheet.Reads as report-sheet-reads
 
 report-sheet-requires : tie.Need-report-sheet-requires
 report-sheet-requires c κs = search needs

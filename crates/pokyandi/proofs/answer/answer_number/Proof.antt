@@ -6,7 +6,6 @@ use Rattle.pokyandi.specs.Answers.{answerNumber}
 use borrow.Author.Needs.{needs}
 use Rattle.pokyandi.proofs.answer.answer_number.Statement.{statement}
 use Rattle.pokyandi.proofs.answer.answer_number.Tie as tie
-use Rattle.pokyandi.proofs.answer.refusal_number.Reads as refusal-number-reads
 
 enum-known-answer : tie.Need-enum-known-answer
 enum-known-answer c = search needs

@@ -7,8 +7,6 @@ use Rattle.pokyandi.proofs.Replies.{found-reply}
 use borrow.Author.Needs.{needs}
 use Rattle.pokyandi.proofs.curves.curve_numbers.Statement.{statement}
 use Rattle.pokyandi.proofs.curves.curve_numbers.Tie as tie
-use Rattle.pokyandi.proofs.curves.store_elements.Reads as store-elements-reads
-use Rattle.elements.proofs.curve_elements.Reads as curve-elements-reads
 
 curve-elements-requires : tie.Need-curve-elements-requires
 curve-elements-requires c κs = search needs

@@ -6,8 +6,6 @@ use Rattle.pokyandi.proofs.Replies.{numbers-reply}
 use borrow.Author.Needs.{needs}
 use Rattle.pokyandi.proofs.lines.sheet_numbers.Statement.{statement}
 use Rattle.pokyandi.proofs.lines.sheet_numbers.Tie as tie
-use Rattle.sheet.proofs.read.Reads as read-reads
-use Rattle.line_numbers.proofs.write.Reads as write-reads
 
 read-requires : tie.Need-read-requires
 read-requires c κs = search needs

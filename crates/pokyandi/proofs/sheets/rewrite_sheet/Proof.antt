@@ -6,8 +6,6 @@ use Rattle.pokyandi.proofs.Replies.{rewrite-reply}
 use borrow.Author.Needs.{needs}
 use Rattle.pokyandi.proofs.sheets.rewrite_sheet.Statement.{statement}
 use Rattle.pokyandi.proofs.sheets.rewrite_sheet.Tie as tie
-use Rattle.sheet.proofs.read.Reads as read-reads
-use Rattle.sheet.proofs.write.Reads as write-reads
 
 read-requires : tie.Need-read-requires
 read-requires c κs = search needs

@@ -5,8 +5,6 @@ use Rattle.pokyandi.proofs.Replies.{refused-sheet, stations-reply}
 use borrow.Author.Needs.{needs}
 use Rattle.pokyandi.proofs.sheets.sheet_stations.Statement.{statement}
 use Rattle.pokyandi.proofs.sheets.sheet_stations.Tie as tie
-use Rattle.calculator.proofs.stations.Reads as stations-reads
-use Rattle.sheet.proofs.read.Reads as read-reads
 
 read-requires : tie.Need-read-requires
 read-requires c κs = search needs
