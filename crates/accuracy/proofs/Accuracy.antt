@@ -9,7 +9,8 @@ use Rattle.line.specs.declared.Line.{Line}
 use Rattle.stationing.specs.Stations.{stationRow}
 use Rattle.stationing.specs.Answer.{stationsIn}
 use Rattle.stationing.proofs.Accepted.{accepted}
-use Rattle.orders.proofs.Replies.{counted, refused-stations}
+use Rattle.orders.proofs.FirstRefusal.{stations-first}
+use Rattle.orders.proofs.Replies.{counted}
 use Rattle.orders.proofs.RowNumbers.{row-numbers}
 use Rattle.accuracy.specs.ExactElements.{documentTerms}
 use Rattle.accuracy.specs.Accuracy.{Accurate}
@@ -23,8 +24,8 @@ accuracy-with n seven line row =
     record {
       stations = λ e. row-within n seven line (accepted line (counted line row e .checked) .in-range) (row-numbers line row e);
       order = λ e. in-exact-order n seven line (accepted line (counted line row e .checked));
-      short-straight = λ e. refused-lengths n seven line (stationRow line) row (refused-stations line row e .first) .straight-short refl;
-      short-arc = λ e. refused-lengths n seven line (stationRow line) row (refused-stations line row e .first) .arc-short refl;
+      short-straight = λ e. refused-lengths n seven line (stationRow line) row (stations-first line row e) .straight-short refl;
+      short-arc = λ e. refused-lengths n seven line (stationRow line) row (stations-first line row e) .arc-short refl;
     }
 
 -- Demand 3, with document 01's eight terms.

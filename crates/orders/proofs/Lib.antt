@@ -3,4 +3,5 @@ pub mod Numbers
 pub mod Unused
 pub mod InOrder
 pub mod Replies
+pub mod FirstRefusal
 pub mod RowNumbers

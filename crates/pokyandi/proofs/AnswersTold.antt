@@ -1,15 +1,11 @@
 -- What a caller in C or Rust reads off an answer: the upper 32 bits are 0 after a count and else the refusal's number, 1 to 16; the lower
 -- ones are the count or the place. Assumes nothing.
 use mathlib.Core.Path.{_≡_, refl}
-use mathlib.Core.Bool.{_&&_}
 use mathlib.Core.List.{List}
 use Prim.Native.Nat.{ℕ, _/_, _%_, _^_, _<_, _≤_}
 use native.Mathlib.Omega.{arith}
-use lib.Dec.{leb, eqb}
 use lib.ListN.{length}
-use lib.IntN.{pos}
-use lib.Signed.{leZ}
-use Rattle.refusals.specs.Outcomes.{Outcome, passed, refused, need}
+use Rattle.refusals.specs.Outcomes.{Outcome, passed, refused}
 use Rattle.refusals.specs.Filling.{FillReply, filled, unfilled, countAfter, withRoom, fill}
 use Rattle.refusals.specs.Order.{Checks, unchecked, outcome}
 use Rattle.refusals.proofs.Numbers.{Refuses, refusal-numbers, wider}
@@ -18,7 +14,7 @@ use Rattle.refusals.proofs.Joining.{passed-left, passed-right}
 use Rattle.line.specs.Checks.{curveChecks, lineChecks}
 use Rattle.line.proofs.InRange.{line-in-range}
 use Rattle.line.proofs.Numbers.{curve-numbers, line-numbers}
-use Rattle.line_numbers.specs.Numbers.{numberCount, numberAt, lineOf, countCheck, numbersChecks}
+use Rattle.line_numbers.specs.Numbers.{lineOf, countCheck, numbersChecks}
 use Rattle.line_numbers.proofs.Storing.{line-length}
 use Rattle.line_numbers.proofs.LineAndNumbers.{few-counted}
 use Rattle.packed_sheet.specs.Layout.{firstEdition}
@@ -26,7 +22,6 @@ use Rattle.packed_sheet.specs.Reading.{readChecks, readLine}
 use Rattle.packed_sheet.proofs.Frames.{framed, count-below}
 use Rattle.round_trips.proofs.Numbers.{read-numbers}
 use Rattle.packed_sheet.proofs.WaysOut.{frame-passes, accepted-line, sheet-length}
-use Rattle.elements.specs.WorkingRule.{arcOf}
 use Rattle.elements.specs.Answer.{arcCheck, elementChecks}
 use Rattle.stationing.specs.Answer.{alignmentChecks}
 use Rattle.stationing.proofs.Accepted.{few}

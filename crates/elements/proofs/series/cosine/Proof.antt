@@ -1,6 +1,6 @@
 -- `cosine`: its divisors are those of the definition, (2j − 1) × 2j. Assumes nothing.
 use mathlib.Core.Path.{_≡_, refl, _∙_, ap}
-use Prim.Native.Nat.{ℕ, _-_}
+use Prim.Native.Nat.{ℕ}
 use lib.IntN.{pos}
 use Rattle.numbers.proofs.Ranges.{at-least, at-most}
 use Rattle.elements.specs.WorkingRule.{scale, term, alternating, cosineOf, cosineDivisor}
