@@ -33,12 +33,12 @@ bufferAfter (refused number place) content lent = lent
 unfoldable pub withRoom : {A : Type 0} → Checks → List A → List A → Checks
 withRoom checks content lent = checks ⨾ check (leb (length content) (length lent)) 16 0
 
--- What a call that makes these checks and writes this content leaves of the buffer that it was lent: its reply, the content's length or the
--- first refusal, and what the buffer then holds.
+-- What a call does to the buffer that it is lent: its reply, and what the buffer then holds.
 pub record Fill (A : Type 0) : Type 0 where
   pub reply : FillReply
   pub buffer : List A
 
+-- A call that makes these checks and writes this content: the content's length or the first refusal, and the content or what was lent.
 unfoldable pub fill : {A : Type 0} → Checks → List A → List A → Fill A
 fill checks content lent =
     record {
