@@ -1,6 +1,9 @@
--- Laws of sheets that the proofs of `sheet` cite, and single sheets by computation.
+-- Laws of sheets, the theorem that reader and writer undo each other (`RoundTrip`), and single sheets by computation.
 pub mod Fitting
 pub mod Frames
 pub mod LineSteps
 pub mod WaysOut
+pub mod WrittenAgain
+pub mod ReadAgain
+pub mod RoundTrip
 pub mod Examples

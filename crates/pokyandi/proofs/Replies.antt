@@ -18,12 +18,10 @@ use Rattle.line.specs.Checks.{lineChecks}
 use Rattle.line.specs.Entries.{lineAfter}
 use Rattle.line.proofs.InRange.{line-in-range}
 use Rattle.line_numbers.specs.Numbers.{lineNumbers, fewCheck, lineOf, countCheck, numbersChecks}
-use Rattle.bits.specs.Bits.{Bytes}
 use Rattle.packed_sheet.specs.Layout.{firstEdition}
 use Rattle.packed_sheet.specs.Reading.{readChecks, readLine}
 use Rattle.packed_sheet.specs.Writing.{sheetOf, sheetIn}
 use Rattle.packed_sheet.proofs.WaysOut.{accepted-line}
-use Rattle.round_trips.proofs.RoundTrip.{read-then-write}
 use Rattle.elements.specs.declared.Elements.{Elements}
 use Rattle.elements.specs.Answer.{valuesBy, elementChecks}
 use Rattle.elements.proofs.Replies.{FoundElements}
@@ -57,16 +55,16 @@ module _ (sheet : List ℕ) (accepted : outcome (readChecks firstEdition sheet) 
       refill (alignmentChecks line) (sheetChecks sheet) (stationRow line) (sheetStations sheet) row checks (ap stationRow same) told
 
   -- The writer's is the one for the sheet's own bytes.
-  pub rewrite-reply : Bytes sheet → (bytes : List ℕ) {reply : FillReply} {after : List ℕ}
+  pub rewrite-reply : sheetOf firstEdition line ≡ sheet → (bytes : List ℕ) {reply : FillReply} {after : List ℕ}
       → (reply ≡ sheetIn firstEdition line bytes .reply) × (after ≡ sheetIn firstEdition line bytes .buffer)
       → (reply ≡ fill (readChecks firstEdition sheet) sheet bytes .reply)
       × (after ≡ fill (readChecks firstEdition sheet) sheet bytes .buffer)
   unfolding sheetIn
-  rewrite-reply ok bytes told =
+  rewrite-reply again bytes told =
       let E = firstEdition in
       let checks : outcome (lineChecks line) ≡ outcome (readChecks E sheet) =
       ap (λ (l : Line). outcome (lineChecks l)) same ∙ accepted-line E sheet accepted ∙ sym accepted in
-      refill (lineChecks line) (readChecks E sheet) (sheetOf E line) sheet bytes checks (ap (sheetOf E) same ∙ read-then-write E sheet ok accepted) told
+      refill (lineChecks line) (readChecks E sheet) (sheetOf E line) sheet bytes checks again told
 
   -- The numbers of the sheet's line.
   pub numbers-reply : (buffer : List ℕ) {reply : FillReply} {after : List ℕ}

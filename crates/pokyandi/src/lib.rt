@@ -6,10 +6,11 @@ mod lines;
 mod sheets;
 
 ghost use mathlib.Core.Path.{_≡_};
+ghost use Prim.Native.Nat.{_^_, _<_};
+ghost use lib.ListN.{take};
 ghost use Rattle.refusals.specs.Order.{unchecked};
 ghost use Rattle.refusals.specs.Filling.{fill};
 ghost use Rattle.line_numbers.specs.Numbers.{numbersChecks};
-ghost use Rattle.bits.specs.Bits.{Bytes};
 ghost use Rattle.packed_sheet.specs.Layout.{firstEdition};
 ghost use Rattle.packed_sheet.specs.Reading.{readChecks};
 ghost use Rattle.elements.specs.Answer.{elementChecks};
@@ -52,12 +53,12 @@ pub extern "C" fn pokyandi_rewrite(sheet: &[u8], bytes: &mut [u8]) -> u64
 }
 
 // The line of a sheet as 5 + 5 × n numbers at the front of `line`: n, V, e, start, distance 0, then side, A, R, L and the distance after
-// it for each curve. Refusals 1 to 11, then 16.
+// it for each curve. Refusals 1 to 11, then 16. The sheet of the numbers that it counts is the sheet.
 #[no_mangle]
 pub extern "C" fn pokyandi_read(sheet: &[u8], line: &mut [u32]) -> u64
     ensures answer { λ r. ⌜ r ≡ answerNumber (fill (readChecks firstEdition (now (sheet .entry))) (sheetNumbers (now (sheet .entry))) (now (line .entry)) .reply) ⌝ }
     ensures memory { λ _. ⌜ now (line .exit) ≡ fill (readChecks firstEdition (now (sheet .entry))) (sheetNumbers (now (sheet .entry))) (now (line .entry)) .buffer ⌝ }
-    ensures bytes { λ _. ⌜ Bytes (now (sheet .entry)) ⌝ }
+    ensures again { λ r. ⌜ (r < 2 ^ 32 → numbersSheet (take r (now (line .exit))) ≡ now (sheet .entry)) ⌝ }
 {
     answer_number(sheet_numbers(sheet, &mut *line))
 }

@@ -1,8 +1,9 @@
 // The calls on a line that is given as numbers.
 ghost use mathlib.Core.Path.{_≡_};
+ghost use Rattle.refusals.specs.Outcomes.{passed};
+ghost use Rattle.refusals.specs.Order.{outcome};
 ghost use Rattle.refusals.specs.Filling.{fillReplyOf, fill};
 ghost use Rattle.line_numbers.specs.Numbers.{numbersChecks};
-ghost use Rattle.bits.specs.Bits.{Bytes};
 ghost use Rattle.packed_sheet.specs.Layout.{firstEdition};
 ghost use Rattle.packed_sheet.specs.Reading.{readChecks};
 ghost use Rattle.pokyandi.specs.Calls.{sheetNumbers, numbersSheet};
@@ -13,7 +14,7 @@ use refusals::Verdict;
 pub(crate) fn sheet_numbers(sheet: &[u8], numbers: &mut [u32]) -> FillAnswer
     ensures { λ a. ⌜ fillReplyOf a ≡ fill (readChecks firstEdition (now (sheet .entry))) (sheetNumbers (now (sheet .entry))) (now (numbers .entry)) .reply ⌝ }
     ensures { λ _. ⌜ now (numbers .exit) ≡ fill (readChecks firstEdition (now (sheet .entry))) (sheetNumbers (now (sheet .entry))) (now (numbers .entry)) .buffer ⌝ }
-    ensures { λ _. ⌜ Bytes (now (sheet .entry)) ⌝ }
+    ensures { λ _. ⌜ (outcome (readChecks firstEdition (now (sheet .entry))) ≡ passed → numbersSheet (sheetNumbers (now (sheet .entry))) ≡ now (sheet .entry)) ⌝ }
 {
     let read = sheet::read(sheet);
     let verdict = read.verdict;

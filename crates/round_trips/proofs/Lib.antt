@@ -1,7 +1,5 @@
--- Laws on reader and writer together, and the theorem that each undoes the other (`RoundTrip`).
+-- What the calls of reader and writer give together (`Calls`), and laws on their refusals and on unused entries.
 pub mod Numbers
 pub mod FirstRefusal
 pub mod Unused
-pub mod WrittenAgain
-pub mod ReadAgain
-pub mod RoundTrip
+pub mod Calls

@@ -4,9 +4,10 @@ ghost use Prim.Native.Nat.{_+_, _/_, _<_, _≤_};
 ghost use lib.ListN.{length};
 ghost use Rattle.refusals.specs.Outcomes.{passed, outcomeOf};
 ghost use Rattle.refusals.specs.Order.{outcome};
-ghost use Rattle.bits.specs.Bits.{Bytes, valuesAt};
+ghost use Rattle.bits.specs.Bits.{valuesAt};
 ghost use Rattle.packed_sheet.specs.Layout.{firstEdition, curveWidths};
 ghost use Rattle.packed_sheet.specs.Reading.{headOf, curveFrom, sizeChecks, frameChecks, lineOf, readChecks, readLine};
+ghost use Rattle.packed_sheet.specs.Writing.{sheetOf};
 use crate::fields::bits_at;
 use crate::fields::last_bits;
 use crate::fields::long_bits_at;
@@ -124,11 +125,11 @@ fn read_line(sheet: &[u8], head: Head) -> Line
 }
 
 // The line of a sheet, its unused entries zero, or the first refusal in document 01's order: 1 (seven bytes), 2, 3, 4, 5, 6,
-// 1 (full length), 7, then 8 to 11 in sheet order. Any bytes are taken; that they are bytes is what the round trips ask for.
+// 1 (full length), 7, then 8 to 11 in sheet order. Any bytes are taken. A sheet that is not refused is the sheet of its line.
 pub fn read(sheet: &[u8]) -> ReadAnswer
     ensures answer { λ r. ⌜ outcomeOf (r .verdict) ≡ outcome (readChecks firstEdition (now (sheet .entry))) ⌝ }
     ensures line { λ r. ⌜ r .line ≡ readLine firstEdition (now (sheet .entry)) ⌝ }
-    ensures bytes { λ _. ⌜ Bytes (now (sheet .entry)) ⌝ }
+    ensures again { λ r. ⌜ (outcomeOf (r .verdict) ≡ passed → sheetOf firstEdition (r .line) ≡ now (sheet .entry)) ⌝ }
 {
     if sheet.len() < 7 {
         return ReadAnswer {

@@ -25,8 +25,8 @@ same-length c = search needs
 returns : tie.Need-returns
 returns c =
     let read = c .before .before .before .before .before .before .read .ensures in
-    let passes = sym (read .0) ∙ ap outcomeOf (c .before .before .before .before .enum-told .given .1) in
-    rewrite-reply _ passes (read .1 .0) (read .1 .1) _ (c .before .before .write .ensures)
+    let told = ap outcomeOf (c .before .before .before .before .enum-told .given .1) in
+    rewrite-reply _ (sym (read .0) ∙ told) (read .1 .0) (read .1 .1 told) _ (c .before .before .write .ensures)
 
 returns-2 : tie.Need-returns-2
 returns-2 c =

@@ -6,6 +6,7 @@ use Rattle.refusals.specs.declared.Refusal.the-variants.{Truncated}
 use Rattle.refusals.specs.Outcomes.{outcomeOf}
 use Rattle.packed_sheet.specs.Layout.{firstEdition}
 use Rattle.packed_sheet.proofs.Frames.{no-head}
+use Rattle.packed_sheet.proofs.RoundTrip.{answer-again}
 use Rattle.packed_sheet.proofs.WaysOut.{line-beside, frame-refused, line-checked}
 use Rattle.sheet.proofs.reader.read.Statement.{statement}
 use Rattle.sheet.proofs.reader.read.Tie as tie
@@ -16,7 +17,8 @@ blank-line-requires c κs = search needs
 returns : tie.Need-returns
 returns c =
     let answer = frame-refused firstEdition _ (Refused Truncated) (no-head firstEdition _ (c .before .if1 .taken)) refl in
-    (answer, (line-beside firstEdition _ (Refused Truncated) answer refl (c .blank-line .ensures), λ i. c .before .before .shared-slice-known .given i .fits))
+    let line-read = line-beside firstEdition _ (Refused Truncated) answer refl (c .blank-line .ensures) in
+    (answer, (line-read, answer-again firstEdition _ (λ i. c .before .before .shared-slice-known .given i .fits) answer line-read))
 
 read-head-requires : tie.Need-read-head-requires
 read-head-requires c κs = search needs
@@ -37,7 +39,8 @@ returns-2 : tie.Need-returns-2
 returns-2 c =
     let told = c .before .enum-told2 .given .1 in
     let answer = frame-refused firstEdition _ _ (c .before .before .before .check-frame .ensures) told in
-    (answer, (line-beside firstEdition _ _ answer told (c .blank-line2 .ensures), λ i. c .before .before .before .before .before .before .shared-slice-known .given i .fits))
+    let line-read = line-beside firstEdition _ _ answer told (c .blank-line2 .ensures) in
+    (answer, (line-read, answer-again firstEdition _ (λ i. c .before .before .before .before .before .before .shared-slice-known .given i .fits) answer line-read))
 
 read-line-requires : tie.Need-read-line-requires
 read-line-requires c κs = (sym (c .before .before .check-frame .ensures) ∙ ap outcomeOf (c .enum-told .given .1), c .before .before .before .read-head .ensures)
@@ -59,14 +62,16 @@ returns-3 c =
     let told = c .before .enum-told4 .given .1 in
     let answer =
     line-checked firstEdition _ _ (c .before .before .before .before .before .before .before .check-frame .ensures) (c .before .before .before .before .before .enum-told .given .1) (c .before .before .before .before .read-line .ensures) (c .before .before .before .check-line .ensures) in
-    (answer, (line-beside firstEdition _ _ answer told (c .blank-line3 .ensures), λ i. c .before .before .before .before .before .before .before .before .before .before .shared-slice-known .given i .fits))
+    let line-read = line-beside firstEdition _ _ answer told (c .blank-line3 .ensures) in
+    (answer, (line-read, answer-again firstEdition _ (λ i. c .before .before .before .before .before .before .before .before .before .before .shared-slice-known .given i .fits) answer line-read))
 
 returns-4 : tie.Need-returns-4
 returns-4 c =
     let told = c .enum-told3 .given .1 in
     let line = c .before .before .before .read-line .ensures in
     let answer = line-checked firstEdition _ _ (c .before .before .before .before .before .before .check-frame .ensures) (c .before .before .before .before .enum-told .given .1) line (c .before .before .check-line .ensures) in
-    (answer, (line-beside firstEdition _ _ answer told line, λ i. c .before .before .before .before .before .before .before .before .before .shared-slice-known .given i .fits))
+    let line-read = line-beside firstEdition _ _ answer told line in
+    (answer, (line-read, answer-again firstEdition _ (λ i. c .before .before .before .before .before .before .before .before .before .shared-slice-known .given i .fits) answer line-read))
 
 pub read-spec : {M : Type 1} → statement M
 read-spec =

@@ -1,45 +1,24 @@
--- Reader and writer undo each other: for every edition, and for the calls `write` and `read`. Assumes nothing.
+-- The calls `write` and `read` undo each other. Assumes nothing.
 use mathlib.Core.Path.{_≡_, refl, sym, _∙_, ap}
 use mathlib.Core.List.{List, _++_}
 use Prim.Native.Nat.{ℕ, _≤_}
 use lib.ListN.{length, take, drop}
-use Rattle.refusals.specs.Outcomes.{Outcome, passed, outcomeOf}
+use Rattle.refusals.specs.Outcomes.{passed, outcomeOf}
 use Rattle.refusals.specs.Filling.{filled, fillReplyOf}
 use Rattle.refusals.proofs.Filled.{found}
 use Rattle.refusals.proofs.FillWays.{whole-fill, refill}
 use Rattle.line.specs.declared.Line.{Line}
 use Rattle.line.specs.Checks.{lineChecks}
-use Rattle.line.specs.Entries.{lineAfter, cleared}
-use Rattle.line.proofs.InRange.{line-in-range}
-use Rattle.bits.specs.Bits.{Bytes}
-use Rattle.packed_sheet.specs.Layout.{Edition, firstEdition, Holds}
-use Rattle.packed_sheet.specs.Reading.{lineOf, readChecks, readLine}
+use Rattle.line.specs.Entries.{cleared}
+use Rattle.packed_sheet.specs.Layout.{firstEdition}
+use Rattle.packed_sheet.specs.Reading.{readChecks, readLine}
 use Rattle.packed_sheet.specs.Writing.{sheetOf, sheetIn}
 use Rattle.packed_sheet.proofs.Fitting.{first-holds}
-use Rattle.packed_sheet.proofs.Frames.{framed}
-use Rattle.round_trips.proofs.WrittenAgain.{sheet-again}
-use Rattle.round_trips.proofs.ReadAgain.{line-again, read-again}
+use Rattle.packed_sheet.proofs.RoundTrip.{write-then-read}
 use Rattle.sheet.specs.declared.reader.ReadAnswer.{ReadAnswer}
 use Rattle.refusals.specs.declared.FillAnswer.{FillAnswer}
 use Rattle.refusals.specs.Order.{unchecked, outcome}
-use Rattle.packed_sheet.proofs.WaysOut.{frame-passes, accepted-line}
-
--- A line written and read again comes back with its unused entries zero.
-pub write-then-read : (E : Edition) → Holds E → (line : Line) → outcome (lineChecks line) ≡ passed
-    → (outcome (readChecks E (sheetOf E line)) ≡ passed) × (readLine E (sheetOf E line) ≡ cleared line)
-unfolding readLine
-write-then-read E holds line e =
-    let ok = line-in-range line e in
-    let read = read-again E holds line ok in
-    (read, ap (λ (o : Outcome). lineAfter o (lineOf E (sheetOf E line))) read ∙ line-again E holds line ok)
-
--- A sheet read and written again has the same bytes.
-pub read-then-write : (E : Edition) (s : List ℕ) → Bytes s → outcome (readChecks E s) ≡ passed → sheetOf E (readLine E s) ≡ s
-unfolding readLine
-read-then-write E s bytes e =
-    ap (λ (o : Outcome). sheetOf E (lineAfter o (lineOf E s))) e ∙ sheet-again E s bytes (framed E s (frame-passes E s e))
-
--- ---- the calls
+use Rattle.packed_sheet.proofs.WaysOut.{accepted-line}
 
 -- What `write` put into the caller's bytes, `read` gives back: the premises are the two contracts, and that `write` returned its count.
 pub written-and-read : (line : Line) (lent bytes : List ℕ) (a : FillAnswer) {count : ℕ} (r : ReadAnswer)
@@ -62,18 +41,17 @@ written-and-read line lent bytes a {count} r answer memory counted says content 
 pub read-and-written : (sheet lent bytes : List ℕ) (r : ReadAnswer) (a : FillAnswer)
     → outcomeOf (r .verdict) ≡ outcome (readChecks firstEdition sheet)
     → r .line ≡ readLine firstEdition sheet
-    → Bytes sheet
+    → (outcomeOf (r .verdict) ≡ passed → sheetOf firstEdition (r .line) ≡ sheet)
     → outcomeOf (r .verdict) ≡ passed
     → length sheet ≤ length lent
     → fillReplyOf a ≡ sheetIn firstEdition (r .line) lent .reply
     → bytes ≡ sheetIn firstEdition (r .line) lent .buffer
     → (fillReplyOf a ≡ filled (length sheet)) × (bytes ≡ sheet ++ drop (length sheet) lent)
 unfolding sheetIn
-read-and-written sheet lent bytes r a says content ok accepted room answer memory =
+read-and-written sheet lent bytes r a says content again accepted room answer memory =
     let E = firstEdition in
-    let passes = sym says ∙ accepted in
-    let checked : outcome (lineChecks (r .line)) ≡ passed = ap (λ (l : Line). outcome (lineChecks l)) content ∙ accepted-line E sheet passes in
-    let again : sheetOf E (r .line) ≡ sheet = ap (sheetOf E) content ∙ read-then-write E sheet ok passes in
-    let given = refill (lineChecks (r .line)) unchecked (sheetOf E (r .line)) sheet lent checked again (answer, memory) in
+    let checked : outcome (lineChecks (r .line)) ≡ passed =
+    ap (λ (l : Line). outcome (lineChecks l)) content ∙ accepted-line E sheet (sym says ∙ accepted) in
+    let given = refill (lineChecks (r .line)) unchecked (sheetOf E (r .line)) sheet lent checked (again accepted) (answer, memory) in
     let whole = whole-fill unchecked sheet lent refl refl room refl in
     (given .0 ∙ sym (whole .0), given .1 ∙ sym (whole .1))
