@@ -19,6 +19,16 @@ pub record Examples : Type 0 where
       ≡ answered (record { X = pos 0; Y = pos 0; k = pos 0; p = pos 0; D = pos 1696; TT = pos 848 })
   pub case-8-short : arcOf 1 200000 0 ≡ pos 969
   pub case-8-refused : elementReply 1 200000 0 ≡ declined 14 0
+  pub greatest : elementReply 432000 5000000 0
+      ≡ answered (record { X = pos 0; Y = pos 0; k = pos 0; p = pos 0; D = pos 10471975510; TT = pos 8660254040 })
+  pub widest-spiral : elementReply 432000 500000 500000
+      ≡ answered (record { X = pos 487644675; Y = pos 81845238; k = pos 247931906; p = pos 20636519; D = pos 547197551; TT = pos 1149700809 })
+  pub arc-of-1000 : elementReply 1 206271 0
+      ≡ answered (record { X = pos 0; Y = pos 0; k = pos 0; p = pos 0; D = pos 1000; TT = pos 500 })
+  pub arc-of-999 : elementReply 1 206270 0 ≡ declined 14 0
+  pub deflection-refused : elementReply 0 19999 500001 ≡ declined 9 0
+  pub radius-refused : elementReply 1 19999 500001 ≡ declined 10 0
+  pub spiral-refused : elementReply 1 20000 20001 ≡ declined 11 0
 
 pub examples : Examples
 unfolding curveChecks rounded fullAngle halfAngle spiralAngle term alternating sineOf cosineOf t2 t3 t4 unitX unitY spiralX spiralY centreOf shiftOf arcOf tanOf tangentOf valuesBy arcCheck elementChecks elementReply
@@ -31,6 +41,13 @@ examples =
       case-8 = refl;
       case-8-short = refl;
       case-8-refused = refl;
+      greatest = refl;
+      widest-spiral = refl;
+      arc-of-1000 = refl;
+      arc-of-999 = refl;
+      deflection-refused = refl;
+      radius-refused = refl;
+      spiral-refused = refl;
     }
 
 -- Case 11: "L 0: X, Y, k, p are all 0.", at every radius.

@@ -6,7 +6,7 @@ use mathlib.Core.List.{List, [], _∷_, _++_}
 use Prim.Native.Nat.{ℕ}
 use lib.ListN.{replicate}
 use Rattle.refusals.specs.Outcomes.{passed, refused}
-use Rattle.refusals.specs.Order.{outcome}
+use Rattle.refusals.specs.Order.{_⨾_, outcome}
 use Rattle.line.specs.declared.Curve.{Curve}
 use Rattle.line.specs.declared.Line.{Line}
 use Rattle.line.specs.Entries.{lineAfter}
@@ -37,6 +37,9 @@ pub record Examples : Type 0 where
   pub count-before-start : outcome (lineChecks (lineOf 65 200000001 (replicate 65 0) (replicate 64 bad))) ≡ refused 3 0
   pub after-a-refusal : lineAfter (refused 8 0) (lineOf 1 0 (1 ∷ replicate 64 0) (replicate 64 good))
       ≡ record { speed = 0; crossfall = 0; start = 0; count = 0; distances = replicate 65 0; curves = replicate 64 (curve 0 0 0) }
+  pub greatest-fields : outcome (headChecks 64 120 12 200000000 ⨾ distanceCheck 20000000 64 ⨾ curveChecks 432000 5000000 500000 64) ≡ passed
+  pub least-fields : outcome (headChecks 0 40 2 0 ⨾ distanceCheck 1 0 ⨾ curveChecks 1 20000 20000 1) ≡ passed
+  pub radius-before-spiral : outcome (curveChecks 1 19999 500001 7) ≡ refused 10 7
   pub unused-entries : outcome (lineChecks (lineOf 0 0 (1 ∷ replicate 64 0) (replicate 64 bad))) ≡ passed
 
 pub examples : Examples
@@ -51,5 +54,8 @@ examples =
       start-before-distance = refl;
       count-before-start = refl;
       after-a-refusal = refl;
+      greatest-fields = refl;
+      least-fields = refl;
+      radius-before-spiral = refl;
       unused-entries = refl;
     }

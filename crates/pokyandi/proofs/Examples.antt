@@ -1,7 +1,10 @@
 -- Answers by computation, and document 01's cases 1 and 9 as the calls for C and Rust give them. Assumes nothing.
-use mathlib.Core.Path.{_≡_, refl, sym, ap}
+use mathlib.Core.Path.{_≡_, refl, sym, _∙_, ap}
 use mathlib.Core.List.{[], _∷_}
-use Rattle.refusals.specs.Filling.{filled, unfilled, fill}
+use lib.ListN.{length}
+use Rattle.refusals.specs.Outcomes.{Outcome}
+use Rattle.refusals.specs.Filling.{filled, unfilled, countAfter, fill}
+use Rattle.refusals.proofs.Filled.{found}
 use Rattle.line.specs.Entries.{entries}
 use Rattle.line_numbers.specs.Numbers.{numbersTo, lineNumbers, lineOf}
 use Rattle.packed_sheet.proofs.Examples.{sheet9}
@@ -12,7 +15,7 @@ use Rattle.elements.proofs.Examples as curves
 use Rattle.stationing.proofs.Examples as lines
 use Rattle.station_report.specs.Report.{sheetChecks}
 use Rattle.pokyandi.specs.Answers.{answerNumber}
-use Rattle.pokyandi.specs.Calls.{sheetStations, sheetNumbers, numbersSheet, elementNumbers}
+use Rattle.pokyandi.specs.Calls.{sheetStations, checkReply, sheetNumbers, numbersSheet, elementNumbers}
 use Rattle.pokyandi.proofs.Replies.{stations-reply, found-numbers}
 
 pub record Examples : Type 0 where
@@ -23,6 +26,7 @@ pub record Examples : Type 0 where
   pub case-9-numbers : sheetNumbers sheet9 ≡ 0 ∷ 70 ∷ 8 ∷ 0 ∷ 500000 ∷ []
   pub case-9-sheet : numbersSheet (0 ∷ 70 ∷ 8 ∷ 0 ∷ 500000 ∷ []) ≡ sheet9
   pub case-9 : fill (sheetChecks sheet9) (sheetStations sheet9) (7 ∷ []) .reply ≡ filled 1
+  pub case-9-checked : checkReply sheet9 ≡ filled 1
   pub case-9-end : fill (sheetChecks sheet9) (sheetStations sheet9) (7 ∷ []) .buffer ≡ 500000000 ∷ []
 
 -- Case 1's curve as the element call answers it.
@@ -37,6 +41,12 @@ stations9 =
     stations-reply sheet9 (sheets.examples .case-9-read) (sym (sheets.examples .case-9-line)) (7 ∷ [])
     (sym (lines.examples .case-9), sym (lines.examples .case-9-row))
 
+checked9 : checkReply sheet9 ≡ filled 1
+unfolding checkReply
+checked9 =
+    let told = found (sheetChecks sheet9) (sheetStations sheet9) (7 ∷ []) (sym (stations9 .0)) in
+    ap (λ (o : Outcome). countAfter o (length (sheetStations sheet9))) (told .checked) ∙ ap filled (sym (told .all))
+
 pub examples : Examples
 unfolding answerNumber sheetNumbers numbersSheet numbersTo lineNumbers lineOf entries
 examples =
@@ -47,5 +57,6 @@ examples =
       case-9-numbers = ap lineNumbers (sheets.examples .case-9-line);
       case-9-sheet = sheets.examples .case-9-written;
       case-9 = sym (stations9 .0);
+      case-9-checked = checked9;
       case-9-end = sym (stations9 .1);
     }

@@ -1,8 +1,8 @@
--- Document 01's cases 1 to 5 and 9, and 12 to 14 curve by curve, from the definitions. Assumes nothing.
+-- Document 01's cases 1 to 5 and 9, and the tables, orders, places and limits of 12 to 15, from the definitions. Assumes nothing.
 use mathlib.Core.Path.{_≡_, refl}
-use mathlib.Core.Bool.{true, false}
+use mathlib.Core.Bool.{Bool, true, false, not, _&&_}
 use mathlib.Core.List.{List, [], _∷_}
-use Prim.Native.Nat.{ℕ}
+use Prim.Native.Nat.{ℕ, _-_}
 use lib.IntN.{pos}
 use lib.ListN.{replicate}
 use Rattle.refusals.specs.Outcomes.{firstOf}
@@ -37,17 +37,26 @@ abbrev pub noCurve : Line
 noCurve =
     record { speed = 70; crossfall = 8; start = 0; count = 0; distances = 500000 ∷ replicate 64 0; curves = replicate 64 (curve 0 0 0) }
 
--- Two curves with a fault each: the spiral of the first is too short, and the radius of the second too small.
-abbrev twoFaults : Line
-twoFaults =
-    record {
-      speed = 70;
-      crossfall = 8;
-      start = 0;
-      count = 2;
-      distances = 500000 ∷ 500000 ∷ 500000 ∷ replicate 62 0;
-      curves = curve 177764 350000 39999 ∷ curve 177764 167750 0 ∷ replicate 62 (curve 0 0 0);
-    }
+-- Case 1's curve with other R and L.
+abbrev curve1 : (R L : ℕ) → Curve
+curve1 R L = curve 177764 R L
+
+-- V 70, e 8, start 0, n curves.
+abbrev lineOf : ℕ → List ℕ → List Curve → Line
+lineOf n distances curves =
+    record { speed = 70; crossfall = 8; start = 0; count = n; distances = distances; curves = curves }
+
+-- Two curves far enough from each other.
+abbrev twoCurves : Curve → Curve → Line
+twoCurves a b = lineOf 2 (500000 ∷ 500000 ∷ 500000 ∷ []) (a ∷ b ∷ [])
+
+-- At the design speed v and crossfall 8, R is the least radius, and with the greatest radius L the least spiral.
+abbrev limits : (v R L : ℕ) → Bool
+limits v R L =
+    radiusServes v 8 R
+    && not (radiusServes v 8 (R - 1))
+    && spiralServes v 5000000 L
+    && not (spiralServes v 5000000 (L - 1))
 
 -- A row with two numbers more than there are stations.
 abbrev pub row : List ℕ
@@ -68,7 +77,26 @@ pub record Examples : Type 0 where
   pub case-5-refused : stationsIn (caseLine 500000 167750 0) (replicate 5 0) .reply ≡ unfilled 12 1
   pub case-9 : stationsIn noCurve (7 ∷ []) .reply ≡ filled 1
   pub case-9-row : stationsIn noCurve (7 ∷ []) .buffer ≡ 500000000 ∷ []
-  pub curve-by-curve : stationsIn twoFaults (replicate 9 0) .reply ≡ unfilled 13 1
+  -- ---- the road tables, each order, each place, each limit
+  pub tables : (limits 40 48456 30000
+      && limits 50 82021 30000
+      && limits 60 123246 30000
+      && limits 70 167751 40000
+      && limits 80 229063 40000
+      && limits 90 289907 50000
+      && limits 100 374954 60000
+      && limits 110 476378 60000
+      && limits 120 596768 70000)
+      ≡ true
+  pub spiral-by-radius : spiralServes 70 308700 40000 && not (spiralServes 70 308699 40000) ≡ true
+  pub radius-before-spiral : stationsIn (caseLine 500000 167750 39999) row .reply ≡ unfilled 12 1
+  pub curve-by-curve : stationsIn (twoCurves (curve1 350000 39999) (curve1 167750 0)) (replicate 9 0) .reply ≡ unfilled 13 1
+  pub second-radius : stationsIn (twoCurves (curve1 350000 40000) (curve1 167750 0)) (replicate 9 0) .reply ≡ unfilled 12 2
+  pub second-spiral : stationsIn (twoCurves (curve1 350000 40000) (curve1 350000 39999)) (replicate 9 0) .reply ≡ unfilled 13 2
+  pub straight-of-1000 : stationsIn (lineOf 0 (1 ∷ []) []) (7 ∷ []) .reply ≡ filled 1
+  pub straight-of-999 : stationsIn (lineOf 1 (181268 ∷ 400000 ∷ []) (curve 178034 350000 40000 ∷ [])) row .reply ≡ unfilled 15 0
+  pub straights-in-turn : stationsIn (lineOf 1 (180990 ∷ 180990 ∷ []) (curve1 350000 40000 ∷ [])) row .reply ≡ unfilled 15 0
+  pub last-straight : stationsIn (lineOf 1 (500000 ∷ 180990 ∷ []) (curve1 350000 40000 ∷ [])) row .reply ≡ unfilled 15 1
 
 pub examples : Examples
 unfolding firstOf startCheck headChecks distanceCheck curveChecks bodyChecks lineChecks rounded fullAngle halfAngle spiralAngle term alternating sineOf cosineOf t2 t3 t4 unitX unitY spiralX spiralY centreOf shiftOf arcOf tanOf tangentOf arcCheck underSpeed frictionAt leastSpiralAt radiusServes spiralServes spiralAt arcAt tangentAt tangentBefore tangentAfter straightAt formerST pointsAt endOf curveStations stationsOf stationRow designChecks designChecksAt straightCheck alignmentChecks withRoom fill stationsIn
@@ -87,5 +115,14 @@ examples =
       case-5-refused = refl;
       case-9 = refl;
       case-9-row = refl;
+      tables = refl;
+      spiral-by-radius = refl;
+      radius-before-spiral = refl;
       curve-by-curve = refl;
+      second-radius = refl;
+      second-spiral = refl;
+      straight-of-1000 = refl;
+      straight-of-999 = refl;
+      straights-in-turn = refl;
+      last-straight = refl;
     }
