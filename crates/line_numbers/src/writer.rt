@@ -55,7 +55,7 @@ fn store_line(line: Line, numbers: &mut [u32])
 }
 
 // The numbers of a line at the front of `numbers`. Answers how many there are, 5 + 5 × n, or refusal 3, over 64 curves, then 16; a refusal
-// leaves `numbers` as they were. Any line and any numbers are taken; unused entries are ignored.
+// leaves `numbers` as they were. Any line and any numbers are taken; entries from n on are not read.
 pub fn write(line: Line, numbers: &mut [u32]) -> FillAnswer
     ensures answer { λ a. ⌜ fillReplyOf a ≡ fill (fewCheck line) (lineNumbers line) (now (numbers .entry)) .reply ⌝ }
     ensures memory { λ _. ⌜ now (numbers .exit) ≡ fill (fewCheck line) (lineNumbers line) (now (numbers .entry)) .buffer ⌝ }

@@ -2,7 +2,7 @@
 use mathlib.Core.Path.{_≡_, refl}
 use mathlib.Core.Bool.{true}
 use mathlib.Core.List.{List, [], _∷_, _++_}
-use Prim.Native.Nat.{ℕ, _+_, _*_}
+use Prim.Native.Nat.{ℕ, _+_, _*_, _≤_, _<_}
 use native.Mathlib.Omega.{arith}
 use lib.ListN.{length, replicate}
 use Rattle.refusals.specs.Outcomes.{passed, refused}
@@ -13,7 +13,7 @@ use Rattle.line.specs.declared.Line.{Line}
 use Rattle.line.specs.Checks.{startCheck, headChecks, distanceCheck, blankCurve, curveChecks, bodyChecks, lineChecks}
 use Rattle.line.specs.Entries.{entries, blankLine}
 use Rattle.bits.specs.Bits.{valueOf, bytesOf, bitsAt, valuesAt, packed}
-use Rattle.packed_sheet.specs.Layout.{firstEdition, bitCount, byteCount}
+use Rattle.packed_sheet.specs.Layout.{Edition, firstEdition, bitCount, byteCount}
 use Rattle.packed_sheet.specs.Reading.{headOf, distanceOf, curveOf, lineOf, sizeChecks, frameChecks, readChecks, readLine}
 use Rattle.packed_sheet.specs.Writing.{entriesAfter, numberTo, sheetNumber, sheetOf, sheetIn}
 
@@ -40,6 +40,10 @@ abbrev curvedLine : List ℕ → List Curve → Line
 curvedLine distances curves =
     record { speed = 70; crossfall = 8; start = 123456789; count = 1; distances = distances; curves = curves }
 
+-- Two curves, all zero but for the last spiral and distance.
+abbrev twoCurves : List ℕ
+twoCurves = 0x10 ∷ 0x51 ∷ 0xA0 ∷ replicate 24 0 ++ (0x09 ∷ 0x00 ∷ 0x00 ∷ 0x01 ∷ 0x00 ∷ [])
+
 -- A full line, whose 65th distance differs from the others.
 abbrev fullLine : Line
 fullLine =
@@ -65,6 +69,10 @@ lateStart = 0x10 ∷ 0x31 ∷ 0xA3 ∷ 0xFF ∷ 0xFF ∷ 0xFF ∷ 0xC0 ∷ []
 pub bits-of-sheet : (n : ℕ) → bitCount firstEdition n ≡ 75 + 87 * n
 bits-of-sheet n = omega arith
 
+-- "filled with zero bits to a whole byte": all bits have room, and fewer than eight fill.
+pub whole-bytes : (E : Edition) (n : ℕ) → (bitCount E n ≤ 8 * byteCount E n) × (8 * byteCount E n < bitCount E n + 8)
+whole-bytes E n = (omega arith, omega arith)
+
 pub record Examples : Type 0 where
   pub case-9-read : outcome (readChecks firstEdition sheet9) ≡ passed
   pub case-9-line : readLine firstEdition sheet9 ≡ line9 (500000 ∷ replicate 64 0) (replicate 64 blankCurve)
@@ -79,6 +87,8 @@ pub record Examples : Type 0 where
   pub curved-read : outcome (readChecks firstEdition curved) ≡ passed
   pub curved-line : readLine firstEdition curved ≡ curvedLine (500000 ∷ 400000 ∷ replicate 63 0) (left ∷ replicate 63 blankCurve)
   pub curved-written : sheetOf firstEdition (curvedLine (500000 ∷ 400000 ∷ replicate 63 9) (replicate 64 left)) ≡ curved
+  -- n 2, the second spiral 9 and the last distance 2
+  pub second-after-first : curveOf firstEdition twoCurves 1 .spiral ∷ distanceOf firstEdition twoCurves 2 ∷ [] ≡ 9 ∷ 2 ∷ []
   -- the 65th distance
   pub full-length : length (sheetOf firstEdition fullLine) ≡ 706
   pub full-distance : distanceOf firstEdition (sheetOf firstEdition fullLine) 64 ≡ 12345
@@ -117,6 +127,7 @@ examples =
       curved-read = refl;
       curved-line = refl;
       curved-written = refl;
+      second-after-first = refl;
       full-length = refl;
       full-distance = refl;
       no-bytes = refl;

@@ -14,15 +14,19 @@ use Rattle.elements.proofs.Replies.{found-elements}
 use Rattle.elements.proofs.Examples as curves
 use Rattle.stationing.proofs.Examples as lines
 use Rattle.station_report.specs.Report.{sheetChecks}
+use Rattle.station_report.proofs.Examples.{sheet4}
+use Rattle.station_report.proofs.Examples as refusedSheets
 use Rattle.pokyandi.specs.Answers.{answerNumber}
-use Rattle.pokyandi.specs.Calls.{sheetStations, checkReply, sheetNumbers, numbersSheet, elementNumbers}
+use Rattle.pokyandi.specs.Calls.{sheetStations, checkReply, sheetNumbers, numbersSheet, elementNumbers, version}
 use Rattle.pokyandi.proofs.Replies.{stations-reply, found-numbers}
 
 pub record Examples : Type 0 where
   pub count : answerNumber (filled 257) ≡ 257
   pub refusal : answerNumber (unfilled 15 64) ≡ 64424509504
+  pub version-0-2-0 : version ≡ 2000
   -- ---- document 01's cases
   pub case-1 : elementNumbers 177764 350000 40000 ≡ 39986940 ∷ 761727 ∷ 19997823 ∷ 190454 ∷ 261638467 ∷ 180989278 ∷ []
+  pub case-4-checked : checkReply sheet4 ≡ unfilled 13 1
   pub case-9-numbers : sheetNumbers sheet9 ≡ 0 ∷ 70 ∷ 8 ∷ 0 ∷ 500000 ∷ []
   pub case-9-sheet : numbersSheet (0 ∷ 70 ∷ 8 ∷ 0 ∷ 500000 ∷ []) ≡ sheet9
   pub case-9 : fill (sheetChecks sheet9) (sheetStations sheet9) (7 ∷ []) .reply ≡ filled 1
@@ -48,12 +52,14 @@ checked9 =
     ap (λ (o : Outcome). countAfter o (length (sheetStations sheet9))) (told .checked) ∙ ap filled (sym (told .all))
 
 pub examples : Examples
-unfolding answerNumber sheetNumbers numbersSheet numbersTo lineNumbers lineOf entries
+unfolding answerNumber checkReply sheetNumbers numbersSheet numbersTo lineNumbers lineOf entries
 examples =
     record {
       count = refl;
       refusal = refl;
+      version-0-2-0 = refl;
       case-1 = sym (found-numbers 177764 350000 40000 elements1 (found-elements 177764 350000 40000 elements1 (sym (curves.examples .case-1))));
+      case-4-checked = ap (λ (o : Outcome). countAfter o (length (sheetStations sheet4))) (refusedSheets.examples .case-4);
       case-9-numbers = ap lineNumbers (sheets.examples .case-9-line);
       case-9-sheet = sheets.examples .case-9-written;
       case-9 = sym (stations9 .0);

@@ -88,7 +88,7 @@ pub extern "C" fn pokyandi_elements(
     answer_number(curve_numbers(deflection, radius, spiral, &mut *numbers))
 }
 
-// What the program `stations` prints for a sheet, at the front of `text`. Refusal 16.
+// What the program `stations` prints for these bytes, of which it reads 707 at most, at the front of `text`. Refusal 16.
 #[no_mangle]
 pub extern "C" fn pokyandi_text(sheet: &[u8], text: &mut [u8]) -> u64
     ensures answer { λ r. ⌜ r ≡ answerNumber (fill unchecked (sheetText (now (sheet .entry))) (now (text .entry)) .reply) ⌝ }

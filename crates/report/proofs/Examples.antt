@@ -12,10 +12,13 @@ pub record Examples : Type 0 where
       ≡ ascii "POINT CURVE STATION\nTS 1 319.010722\nSC 1 359.010722\nCS 1 620.649189\nST 1 660.649189\nEND 0 879.659911\n"
   pub no-curve : stationList (500000000 ∷ []) ≡ ascii "POINT CURVE STATION\nEND 0 500.000000\n"
   pub second-curve : pointLine (1 ∷ 2 ∷ 3 ∷ 4 ∷ 5 ∷ 6 ∷ 7 ∷ 8 ∷ 9 ∷ []) 6 ≡ ascii "CS 2 0.000007\n"
+  pub third-curve : pointLine (replicate 13 7) 8 ≡ ascii "TS 3 0.000007\n"
+  pub last-curve : pointLine (replicate 257 7) 255 ≡ ascii "ST 64 0.000007\n"
   pub first-station : metres 0 ≡ ascii "0.000000"
   pub short-straight : metres 1722 ≡ ascii "0.001722"
   pub greatest : metres 18446744073709551615 ≡ ascii "18446744073709.551615"
   pub refusal : refusalLine 15 0 ≡ ascii "REFUSED 15 0\n"
+  pub one-digit-to-9 : refusalLine 9 10 ≡ ascii "REFUSED 9 10\n"
   pub last-place : refusalLine 8 64 ≡ ascii "REFUSED 8 64\n"
   -- ---- the caller's bytes
   pub too-small : fill unchecked (refusalLine 15 0) (replicate 12 7) .reply ≡ unfilled 16 0
@@ -30,10 +33,13 @@ examples =
       case-1 = refl;
       no-curve = refl;
       second-curve = refl;
+      third-curve = refl;
+      last-curve = refl;
       first-station = refl;
       short-straight = refl;
       greatest = refl;
       refusal = refl;
+      one-digit-to-9 = refl;
       last-place = refl;
       too-small = refl;
       as-lent = refl;

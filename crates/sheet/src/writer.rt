@@ -116,7 +116,7 @@ fn write_sheet(line: Line, bytes: &mut [u8])
 
 // The sheet of a line, at the front of `bytes`. Answers its length in bytes, or the first refusal in document 01's order: 3 to
 // 6, 8 to 11 in sheet order, then 16; a refusal leaves `bytes` as they were. Any line and any bytes are taken; unused entries
-// are ignored. Each byte is stored once, in ascending order.
+// are ignored.
 pub fn write(line: Line, bytes: &mut [u8]) -> FillAnswer
     ensures answer { λ a. ⌜ fillReplyOf a ≡ sheetIn firstEdition line (now (bytes .entry)) .reply ⌝ }
     ensures memory { λ _. ⌜ now (bytes .exit) ≡ sheetIn firstEdition line (now (bytes .entry)) .buffer ⌝ }

@@ -2,3 +2,4 @@
 pub mod Texts
 pub mod Fits
 pub mod DocumentCases
+pub mod Examples
