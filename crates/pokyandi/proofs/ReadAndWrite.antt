@@ -6,15 +6,14 @@ use native.Mathlib.Omega.{arith}
 use lib.ListN.{length, take, drop}
 use Rattle.refusals.specs.Outcomes.{passed}
 use Rattle.refusals.specs.Filling.{FillReply, filled, unfilled, fill}
-use Rattle.refusals.specs.Order.{Checks, unchecked, outcome}
+use Rattle.refusals.specs.Order.{outcome}
 use Rattle.refusals.proofs.Joining.{passed-right}
-use Rattle.refusals.proofs.FillWays.{whole-fill, refill}
+use Rattle.refusals.proofs.FillWays.{known-fill}
 use Rattle.refusals.proofs.Filled.{found}
 use Rattle.line.specs.Entries.{cleared}
 use Rattle.line.proofs.InRange.{line-in-range}
 use Rattle.line_numbers.specs.Numbers.{lineNumbers, lineOf, countCheck, numbersChecks}
 use Rattle.line_numbers.proofs.LineAndNumbers.{line-again, outcome-again, numbers-again}
-use Rattle.bits.specs.Bits.{Bytes}
 use Rattle.packed_sheet.specs.Layout.{firstEdition}
 use Rattle.packed_sheet.specs.Reading.{readChecks, readLine}
 use Rattle.packed_sheet.specs.Writing.{sheetOf}
@@ -37,7 +36,7 @@ write-then-read numbers accepted =
     let same : cleared line ≡ line = sym (line-again line) ∙ ap lineOf back in
     (read .0, ap lineNumbers (read .1 ∙ same) ∙ back)
 
--- A sheet read as numbers is accepted by the writer, and written again it is the sheet of its line,
+-- A sheet read as numbers is accepted by the writer, and written again it is the sheet of its line, which `read` says is the sheet itself.
 pub numbers-accepted : (sheet : List ℕ) → outcome (readChecks firstEdition sheet) ≡ passed
     → (outcome (numbersChecks (sheetNumbers sheet)) ≡ passed) × (numbersSheet (sheetNumbers sheet) ≡ sheetOf firstEdition (readLine firstEdition sheet))
 unfolding numbersSheet sheetNumbers
@@ -48,22 +47,7 @@ numbers-accepted sheet accepted =
     let few = line-in-range line checked .few in
     (outcome-again line few ∙ checked, ap (sheetOf E) (line-again line) ∙ same-sheet E line few)
 
--- which has the same bytes.
-pub read-then-write : (sheet : List ℕ) → Bytes sheet → outcome (readChecks firstEdition sheet) ≡ passed
-    → (outcome (numbersChecks (sheetNumbers sheet)) ≡ passed) × (numbersSheet (sheetNumbers sheet) ≡ sheet)
-read-then-write sheet bytes accepted =
-    let again = numbers-accepted sheet accepted in
-    (again .0, again .1 ∙ sheets.read-then-write firstEdition sheet bytes accepted)
-
 -- ---- the calls
-
--- A call whose checks pass and whose content is known, into a buffer that is long enough.
-filled-with : (checks : Checks) (content known buffer : List ℕ) → outcome checks ≡ passed → content ≡ known → length known ≤ length buffer
-    → (fill checks content buffer .reply ≡ filled (length known)) × (fill checks content buffer .buffer ≡ known ++ drop (length known) buffer)
-filled-with checks content known buffer e same room =
-    let whole = whole-fill unchecked known buffer refl refl room refl in
-    let given = refill checks unchecked content known buffer e same (refl, refl) in
-    (given .0 ∙ sym (whole .0), given .1 ∙ sym (whole .1))
 
 -- What `pokyandi_write` put into the caller's bytes, `pokyandi_read` gives back as the numbers that were written.
 pub written-and-read : (numbers bytes row sheet : List ℕ) {count : ℕ}
@@ -76,7 +60,7 @@ written-and-read numbers bytes row sheet answer s room =
     let told = found (numbersChecks numbers) (numbersSheet numbers) bytes answer in
     let same = s ∙ told .front in
     let again = write-then-read numbers (told .checked) in
-    filled-with (readChecks firstEdition sheet) (sheetNumbers sheet) numbers row (ap (λ (s : List ℕ). outcome (readChecks firstEdition s)) same ∙ again .0) (ap sheetNumbers same ∙ again .1) room
+    known-fill (readChecks firstEdition sheet) (sheetNumbers sheet) numbers row (ap (λ (s : List ℕ). outcome (readChecks firstEdition s)) same ∙ again .0) (ap sheetNumbers same ∙ again .1) room
 
 -- The sheet of the numbers that `pokyandi_read` counted is the sheet, as its contract says: from its other two equations, and what `read` says.
 pub counted-again : (sheet row numbers : List ℕ) (r : ℕ)
@@ -108,5 +92,5 @@ pub read-and-written : (sheet row bytes numbers : List ℕ) {count : ℕ}
 read-and-written sheet row bytes numbers answer s again room =
     let told = found (readChecks firstEdition sheet) (sheetNumbers sheet) row answer in
     let accepted = numbers-accepted sheet (told .checked) .0 in
-    filled-with (numbersChecks numbers) (numbersSheet numbers) sheet bytes
+    known-fill (numbersChecks numbers) (numbersSheet numbers) sheet bytes
     (ap (λ (s : List ℕ). outcome (numbersChecks s)) (s ∙ told .front) ∙ accepted) again room

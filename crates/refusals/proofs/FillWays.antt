@@ -6,7 +6,7 @@ use lib.Dec.{leb}
 use lib.ListN.{length, drop}
 use borrow.Author.Tests.{le-leb, lt-leb}
 use Rattle.refusals.specs.Outcomes.{passed, refused, need, _▹_}
-use Rattle.refusals.specs.Order.{Checks, outcome}
+use Rattle.refusals.specs.Order.{Checks, unchecked, outcome}
 use Rattle.refusals.specs.Filling.{FillReply, filled, unfilled, countAfter, bufferAfter, withRoom, fill}
 
 module _ {A : Type 0} (checks : Checks) (content lent : List A) where
@@ -44,3 +44,11 @@ pub refill : {A : Type 0} (c d : Checks) (u v lent : List A) {reply : FillReply}
 refill c d u v lent e q told =
     let same = same-fill c d u v lent e q in
     (told .0 ∙ (λ j. same j .reply), told .1 ∙ (λ j. same j .buffer))
+
+-- A call whose checks pass and whose content is known, into a buffer that is long enough.
+pub known-fill : {A : Type 0} (checks : Checks) (content known lent : List A) → outcome checks ≡ passed → content ≡ known → length known ≤ length lent
+    → (fill checks content lent .reply ≡ filled (length known)) × (fill checks content lent .buffer ≡ known ++ drop (length known) lent)
+known-fill checks content known lent e same room =
+    let whole = whole-fill unchecked known lent refl refl room refl in
+    let given = refill checks unchecked content known lent e same (refl, refl) in
+    (given .0 ∙ sym (whole .0), given .1 ∙ sym (whole .1))

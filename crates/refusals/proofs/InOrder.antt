@@ -32,7 +32,7 @@ first-in-order (inTurn each count) e =
     record {
       index = f .index;
       below = f .below;
-      before = λ i h. all-hold (each i) (each-passes each (f .index) (f .before) i h);
+      before = λ i h. all-hold (each i) (f .before i h);
       here = first-in-order (each (f .index)) (f .here);
     }
 

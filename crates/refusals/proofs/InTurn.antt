@@ -7,7 +7,7 @@ use native.Mathlib.Numerals.{add-one}
 use native.Mathlib.Decide.{decLt}
 use native.Mathlib.Omega.{arith}
 use Rattle.refusals.specs.Outcomes.{passed, refused, firstOf}
-use Rattle.refusals.specs.Order.{Checks, inTurn, outcome}
+use Rattle.refusals.specs.Order.{Checks, inTurn, outcome, OneOf}
 use Rattle.refusals.proofs.Joining.{passed-left, passed-right, never, refused-by, join}
 
 module _ (each : ℕ → Checks) where
@@ -48,21 +48,17 @@ module _ (each : ℕ → Checks) where
           let same : i ≡ count = omega arith in
           ap (λ (n : ℕ). outcome (each n)) same ∙ passed-right (outcome (inTurn each count)) _ e
 
-  -- A refusal comes from one of the checks, and all before that one pass.
-  pub record FirstRefusal (count n p : ℕ) : Type 0 where
-    pub index : ℕ
-    pub below : index < count
-    pub before : outcome (inTurn each index) ≡ passed
-    pub here : outcome (each index) ≡ refused n p
-
-  pub find-first : (count : ℕ) {n p : ℕ} → outcome (inTurn each count) ≡ refused n p → FirstRefusal count n p
+  -- A refusal comes from one of them, and all before that one pass.
+  pub find-first : (count : ℕ) {n p : ℕ} → outcome (inTurn each count) ≡ refused n p
+      → OneOf count (λ i. outcome (each i) ≡ passed) (λ i. outcome (each i) ≡ refused n p)
   unfolding firstOf
   find-first zero {n} {p} e = never n p e
   find-first (suc count) {n} {p} e =
-      ⊎-elim (λ a. later (find-first count a)) (λ b. record { index = count; below = omega arith; before = b .0; here = b .1 })
+      ⊎-elim (λ a. later (find-first count a)) (λ b. record { index = count; below = omega arith; before = each-passes count (b .0); here = b .1 })
       (refused-by (outcome (inTurn each count)) (outcome (each count)) e)
     where
-      later : FirstRefusal count n p → FirstRefusal (suc count) n p
+      later : OneOf count (λ i. outcome (each i) ≡ passed) (λ i. outcome (each i) ≡ refused n p)
+          → OneOf (suc count) (λ i. outcome (each i) ≡ passed) (λ i. outcome (each i) ≡ refused n p)
       later f = record { index = f .index; below = omega (arith, f .below); before = f .before; here = f .here }
 
 -- Checks that agree, in turn.

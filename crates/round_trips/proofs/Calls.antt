@@ -1,12 +1,12 @@
 -- The calls `write` and `read` undo each other. Assumes nothing.
-use mathlib.Core.Path.{_≡_, refl, sym, _∙_, ap}
+use mathlib.Core.Path.{_≡_, sym, _∙_, ap}
 use mathlib.Core.List.{List, _++_}
 use Prim.Native.Nat.{ℕ, _≤_}
 use lib.ListN.{length, take, drop}
 use Rattle.refusals.specs.Outcomes.{passed, outcomeOf}
 use Rattle.refusals.specs.Filling.{filled, fillReplyOf}
 use Rattle.refusals.proofs.Filled.{found}
-use Rattle.refusals.proofs.FillWays.{whole-fill, refill}
+use Rattle.refusals.proofs.FillWays.{known-fill}
 use Rattle.line.specs.declared.Line.{Line}
 use Rattle.line.specs.Checks.{lineChecks}
 use Rattle.line.specs.Entries.{cleared}
@@ -17,7 +17,7 @@ use Rattle.packed_sheet.proofs.Fitting.{first-holds}
 use Rattle.packed_sheet.proofs.RoundTrip.{write-then-read}
 use Rattle.sheet.specs.declared.reader.ReadAnswer.{ReadAnswer}
 use Rattle.refusals.specs.declared.FillAnswer.{FillAnswer}
-use Rattle.refusals.specs.Order.{unchecked, outcome}
+use Rattle.refusals.specs.Order.{outcome}
 use Rattle.packed_sheet.proofs.WaysOut.{accepted-line}
 
 -- What `write` put into the caller's bytes, `read` gives back: the premises are the two contracts, and that `write` returned its count.
@@ -52,6 +52,5 @@ read-and-written sheet lent bytes r a says content again accepted room answer me
     let E = firstEdition in
     let checked : outcome (lineChecks (r .line)) ≡ passed =
     ap (λ (l : Line). outcome (lineChecks l)) content ∙ accepted-line E sheet (sym says ∙ accepted) in
-    let given = refill (lineChecks (r .line)) unchecked (sheetOf E (r .line)) sheet lent checked (again accepted) (answer, memory) in
-    let whole = whole-fill unchecked sheet lent refl refl room refl in
-    (given .0 ∙ sym (whole .0), given .1 ∙ sym (whole .1))
+    let given = known-fill (lineChecks (r .line)) (sheetOf E (r .line)) sheet lent checked (again accepted) room in
+    (answer ∙ given .0, memory ∙ given .1)
