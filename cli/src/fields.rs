@@ -1,0 +1,56 @@
+//! The fields of a sheet that is refused, as they stand in its bits
+//! (`docs/rule.md`): the library answers no numbers for such a sheet. They serve
+//! for words alone.
+
+use crate::line::Line;
+
+/// Widths in bits: edition, n, V, e, start.
+const HEAD: [usize; 5] = [4, 7, 7, 4, 28];
+const DISTANCE: usize = 25;
+/// Side, A, R, L.
+const CURVE: [usize; 4] = [1, 19, 23, 19];
+
+/// The number in the bits from `at` on, most significant first; bits behind the
+/// sheet are 0.
+fn bits(sheet: &[u8], at: usize, width: usize) -> u64 {
+    let bit = |at: usize| sheet.get(at / 8).map_or(0, |byte| byte >> (7 - at % 8) & 1);
+    (at..at + width).fold(0, |sum, at| 2 * sum + u64::from(bit(at)))
+}
+
+/// Fields one after the other.
+struct Fields<'a> {
+    sheet: &'a [u8],
+    at: usize,
+}
+
+impl Fields<'_> {
+    fn next(&mut self, width: usize) -> u64 {
+        let value = bits(self.sheet, self.at, width);
+        self.at += width;
+        value
+    }
+}
+
+/// The edition that a sheet names, and the line of its fields, in range or not.
+pub fn fields_of(sheet: &[u8]) -> (u64, Line) {
+    let mut fields = Fields { sheet, at: 0 };
+    let [edition, n, speed, crossfall, start] = HEAD.map(|width| fields.next(width));
+    let mut numbers = vec![n, speed, crossfall, start, fields.next(DISTANCE)];
+    for _ in 0..n {
+        numbers.extend(CURVE.map(|width| fields.next(width)));
+        numbers.push(fields.next(DISTANCE));
+    }
+    (edition, Line { numbers })
+}
+
+#[cfg(test)]
+mod tests {
+    use super::*;
+    use crate::line::example;
+
+    #[test]
+    fn the_fields_of_an_accepted_sheet_are_those_that_the_library_reads() {
+        let line = example();
+        assert_eq!(fields_of(&line.sheet().unwrap()), (1, line));
+    }
+}

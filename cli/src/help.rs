@@ -1,0 +1,174 @@
+//! What `--help` prints. The examples are run by a test (`tests/help.rs`), in the
+//! folder `samples`.
+
+macro_rules! usage {
+    () => {
+        "\
+usage: pokyandi stations [--as metres|km|estaca|csv] [SHEET..]
+       pokyandi elements SHEET..
+       pokyandi check SHEET..
+       pokyandi make TEXT SHEET
+       pokyandi show SHEET
+       pokyandi SUBCOMMAND --help
+       pokyandi --help | --version
+"
+    };
+}
+
+/// The subcommands in short.
+pub const USAGE: &str = usage!();
+
+/// The help of the command as a whole.
+pub fn all() -> &'static str {
+    concat!(
+        usage!(),
+        "
+Stations of road alignments from packed sheets.
+
+stations   the stations of TS, SC, CS and ST of every curve, and of the end
+elements   X, Y, k, p, D and TT of every curve, and the straights
+check      a line for each sheet: fine, or why it is refused, with the limit missed
+make       the sheet of a plain text
+show       the text of a sheet
+
+The name - stands for standard input, as a sheet that is made for standard output.
+Exit status: 0 done; 1 a sheet is refused or a text is faulty; 2 wrong usage, or
+reading or writing failed. Results go to standard output, words to standard error.
+
+From a plain text to stations:
+
+    $ pokyandi make line.txt /tmp/line.sheet
+    /tmp/line.sheet: written, 21 bytes, 1 curve
+    $ pokyandi stations /tmp/line.sheet
+    POINT CURVE STATION
+    TS 1 319.010722
+    SC 1 359.010722
+    CS 1 620.649189
+    ST 1 660.649189
+    END 0 879.659911
+"
+    )
+}
+
+/// The help of a subcommand.
+pub fn of(subcommand: &str) -> Option<&'static str> {
+    match subcommand {
+        "stations" => Some(STATIONS),
+        "elements" => Some(ELEMENTS),
+        "check" => Some(CHECK),
+        "make" => Some(MAKE),
+        "show" => Some(SHOW),
+        _ => None,
+    }
+}
+
+const STATIONS: &str = "\
+usage: pokyandi stations [--as metres|km|estaca|csv] [SHEET..]
+       pokyandi stations [--as metres|km|estaca|csv] --list FILE
+
+Prints a line for each point of each sheet, in the order of the road: name, number
+of the curve, station. The end of the line has curve 0. A sheet that is refused
+gets REFUSED, number and place instead, and words on standard error.
+
+  --as metres   319.010722, as the program stations prints it (the usual form)
+  --as km       0+319.010722, kilometres and metres
+  --as estaca   15 + 19.010722, estacas of 20 m and metres
+  --as csv      sheet,point,curve,station with one heading for all sheets
+  --list FILE   the sheets are those that FILE names, a line each
+
+Without a sheet it reads standard input, as for the name -. Several sheets each get
+a line SHEET NAME above their stations, but for csv; one that is refused or cannot
+be read does not stop the others.
+
+    $ pokyandi stations --as km stations/case-01.sheet
+    POINT CURVE STATION
+    TS 1 0+319.010722
+    SC 1 0+359.010722
+    CS 1 0+620.649189
+    ST 1 0+660.649189
+    END 0 0+879.659911
+";
+
+const ELEMENTS: &str = "\
+usage: pokyandi elements SHEET..
+       pokyandi elements --list FILE
+
+Prints the elements of every curve and the straights of each sheet, in metres:
+X and Y, abscissa and ordinate of SC from TS; k, abscissa of the centre; p, shift;
+D, length of the arc; TT, tangent from the PI to TS and ST. Straight i is what the
+tangents leave of distance i, from ST of curve i to TS of the next.
+
+  --list FILE   the sheets are those that FILE names, a line each
+
+    $ pokyandi elements stations/case-01.sheet
+    CURVE                X             Y             k             p             D            TT
+    1            39.986940      0.761727     19.997823      0.190454    261.638467    180.989278
+    STRAIGHT        LENGTH
+    0           319.010722
+    1           219.010722
+";
+
+const CHECK: &str = "\
+usage: pokyandi check SHEET..
+       pokyandi check --list FILE
+
+Prints a line for each sheet: fine, with its curves and its end; or the number of
+the refusal, the place, the value that was found, the limit that it misses and the
+formula behind it.
+
+  --list FILE   the sheets are those that FILE names, a line each
+
+    $ pokyandi check stations/case-01.sheet stations/case-05-refused.sheet
+    stations/case-01.sheet: fine, 1 curve, end at 0+879.659911 km
+    stations/case-05-refused.sheet: refused 12 at curve 1: the radius is 167.750 m; the least is 167.751 m, by V² / (127 (e + f)) at V = 70 km/h, e = 8 % and the table's f
+";
+
+const MAKE: &str = "\
+usage: pokyandi make TEXT SHEET
+
+Makes the packed sheet of a plain text, one item on each line, in this order:
+
+    speed 70
+    crossfall 8
+    start 0+000km
+    distance 500m
+    curve right 49d22m44s 350m 40m
+    distance 400m
+
+A curve has side (right or left), deflection, radius and spiral length, 0 for none;
+before it stands the distance to its PI from the start or the PI before, and behind
+the last curve the distance from its PI to the end. Every length and angle may be
+written in one of these forms:
+
+    310500  310500mm         mm
+    310.5m  310,5m           metres
+    12+340.5km               kilometres and metres
+    617+0.00e                estacas of 20 m, and metres
+    177764                   seconds of arc
+    49d22m44s  49°22'44\"     degrees, minutes and seconds
+
+Speed is in km/h, crossfall in percent. What is finer than a mm or a second is an
+error. # begins a comment; blank lines, tabs, a byte order mark and CRLF are taken.
+
+The sheet is written beside the old one, read back and renamed: after an error the
+old one is as it was. Where the stations of the line are refused the sheet is made
+all the same, for the exchange; words say why, and the exit status is 1. A value
+that is probably in the wrong unit gets a warning.
+
+    $ pokyandi make line.txt /tmp/line.sheet
+    /tmp/line.sheet: written, 21 bytes, 1 curve
+";
+
+const SHOW: &str = "\
+usage: pokyandi show SHEET
+
+Prints the text of a sheet, which pokyandi make takes back to the same bytes.
+
+    $ pokyandi show stations/case-01.sheet
+    speed 70km/h
+    crossfall 8%
+    start 0+000.000km
+    distance 500.000m
+    curve right 49d22m44s 350.000m 40.000m  # 1
+    distance 400.000m
+";

@@ -1,0 +1,254 @@
+//! Limits, asked of the library itself: the least or greatest number that it
+//! does not refuse. No range, table or formula is written down here.
+
+use crate::line::{example, Curve, Line};
+use pokyandi::line::{curve, CROSSFALL, CURVES, SPEED};
+use pokyandi::{Reason, Refusal};
+use std::ops::RangeInclusive;
+
+/// The greatest number that the library takes.
+const MOST: u64 = u32::MAX as u64;
+
+/// The least number of the range that serves; from it on, all do.
+fn least(range: RangeInclusive<u64>, serves: impl Fn(u64) -> bool) -> Option<u64> {
+    let (mut low, mut high) = range.into_inner();
+    if !serves(high) {
+        return None;
+    }
+    while low < high {
+        let middle = low + (high - low) / 2;
+        match serves(middle) {
+            true => high = middle,
+            false => low = middle + 1,
+        }
+    }
+    Some(high)
+}
+
+/// The greatest number of the range that serves; up to it, all do.
+fn greatest(range: RangeInclusive<u64>, serves: impl Fn(u64) -> bool) -> Option<u64> {
+    let (low, high) = range.into_inner();
+    let mirrored = least(0..=high - low, |gap| serves(high - gap));
+    mirrored.map(|gap| high - gap)
+}
+
+fn is_refused(answer: Result<impl Sized, Refusal>, reason: Reason) -> bool {
+    answer.is_err_and(|refusal| refusal.reason == reason)
+}
+
+/// The range of the number at an index of the example's line.
+pub fn range(index: usize) -> (u64, u64) {
+    range_in(&example(), index)
+}
+
+/// The range of the number at an index of a line that can be written.
+fn range_in(line: &Line, index: usize) -> (u64, u64) {
+    let serves = |number| line.with(index, number).sheet().is_ok();
+    let now = line.numbers[index];
+    let low = least(0..=now, serves).unwrap_or(now);
+    (low, greatest(now..=MOST, serves).unwrap_or(now))
+}
+
+/// The range of a radius, mm.
+pub fn radius_range() -> (u64, u64) {
+    let simple = example().with(curve(1) + pokyandi::curve::SPIRAL, 0);
+    range_in(&simple, curve(1) + pokyandi::curve::RADIUS)
+}
+
+/// The editions that are read.
+pub fn editions() -> Vec<u8> {
+    let sheet = example().sheet().unwrap_or_default();
+    let is_read = |edition: &u8| {
+        let of_edition = |(i, byte): (usize, &u8)| {
+            if i == 0 {
+                byte & 15 | edition << 4
+            } else {
+                *byte
+            }
+        };
+        let sheet: Vec<u8> = sheet.iter().enumerate().map(of_edition).collect();
+        !is_refused(pokyandi::check(&sheet), Reason::Edition)
+    };
+    (0..16).filter(is_read).collect()
+}
+
+/// The design speeds, km/h.
+pub fn speeds() -> Vec<u64> {
+    let serves = |speed: &u64| example().with(SPEED, *speed).sheet().is_ok();
+    (0..=u64::from(u8::MAX)).filter(serves).collect()
+}
+
+/// The greatest number of curves.
+pub fn most_curves() -> u64 {
+    let line = |n: u64| {
+        let mut numbers = example().numbers;
+        let entry = numbers.split_off(curve(1));
+        numbers.extend((0..n).flat_map(|_| entry.iter()));
+        numbers[CURVES] = n;
+        Line { numbers }
+    };
+    greatest(0..=1_000, |n| line(n).sheet().is_ok()).unwrap_or(0)
+}
+
+/// The fewest bytes that the sheet would need to be whole.
+pub fn bytes_needed(sheet: &[u8]) -> usize {
+    let lengthened = |size: u64| {
+        let mut sheet = sheet.to_vec();
+        sheet.resize(size as usize, 0);
+        sheet
+    };
+    let is_whole = |size| !is_refused(pokyandi::check(&lengthened(size)), Reason::Truncated);
+    least(0..=pokyandi::SHEET_BYTES as u64, is_whole).unwrap_or(0) as usize
+}
+
+/// The example's line with this speed and crossfall, its curve as sharp as can be.
+fn design(line: &Line) -> Line {
+    let (_, sharpest) = range(curve(1) + pokyandi::curve::DEFLECTION);
+    example()
+        .with(SPEED, line.speed())
+        .with(CROSSFALL, line.crossfall())
+        .with(curve(1) + pokyandi::curve::DEFLECTION, sharpest)
+        .with(curve(1) + pokyandi::curve::SPIRAL, 0)
+}
+
+/// The least radius for the speed and crossfall of a line, mm.
+pub fn least_radius(line: &Line) -> Option<u64> {
+    let index = curve(1) + pokyandi::curve::RADIUS;
+    let (low, high) = radius_range();
+    let design = design(line);
+    let serves = |radius| !is_refused(design.with(index, radius).check(), Reason::LeastRadius);
+    least(low..=high, serves)
+}
+
+/// The least length of a spiral at this radius for the speed of a line, mm;
+/// none where no spiral that may stand there is long enough.
+pub fn least_spiral(line: &Line, radius: u64) -> Option<u64> {
+    let index = curve(1) + pokyandi::curve::SPIRAL;
+    let design = design(line).with(curve(1) + pokyandi::curve::RADIUS, radius);
+    let serves = |spiral| !is_refused(design.with(index, spiral).check(), Reason::LeastSpiral);
+    least(1..=greatest_spiral(radius), serves)
+}
+
+/// The same where the radius is as large as can be, so that only the table counts.
+pub fn tabled_spiral(line: &Line) -> Option<u64> {
+    least_spiral(line, radius_range().1)
+}
+
+/// The least radius at which some spiral is long enough for the speed of a line.
+pub fn least_radius_with_spiral(line: &Line) -> Option<u64> {
+    let (low, high) = radius_range();
+    let low = least_radius(line).unwrap_or(low);
+    least(low..=high, |radius| least_spiral(line, radius).is_some())
+}
+
+/// The greatest length of a spiral at this radius, mm.
+pub fn greatest_spiral(radius: u64) -> u64 {
+    let spiral = curve(1) + pokyandi::curve::SPIRAL;
+    let line = example().with(curve(1) + pokyandi::curve::RADIUS, radius);
+    range_in(&line.with(spiral, 0), spiral).1
+}
+
+/// The least deflection that leaves an arc at the radius and spiral of a curve,
+/// seconds.
+pub fn least_deflection(curve_there: Curve) -> Option<u64> {
+    let (low, high) = range(curve(1) + pokyandi::curve::DEFLECTION);
+    least(low..=high, |deflection| {
+        has_arc(Curve {
+            deflection,
+            ..curve_there
+        })
+    })
+}
+
+/// The longest spiral that leaves an arc at the deflection and radius of a curve,
+/// mm; none where not even a simple curve has one.
+pub fn longest_spiral_with_arc(curve_there: Curve) -> Option<u64> {
+    let range = 0..=greatest_spiral(curve_there.radius);
+    greatest(range, |spiral| {
+        has_arc(Curve {
+            spiral,
+            ..curve_there
+        })
+    })
+}
+
+fn has_arc(curve: Curve) -> bool {
+    !is_refused(curve.elements(), Reason::ShortArc)
+}
+
+/// The least distance i of a line that leaves its straight long enough, mm.
+pub fn least_distance(line: &Line, i: usize) -> Option<u64> {
+    let index = pokyandi::line::distance(i);
+    let (_, high) = range(index.min(pokyandi::line::distance(1)));
+    least(line.distance(i)..=high, |distance| {
+        let refusal = line.with(index, distance).check().err();
+        refusal
+            != Some(Refusal {
+                reason: Reason::ShortStraight,
+                place: i as u32,
+            })
+    })
+}
+
+#[cfg(test)]
+mod tests {
+    use super::*;
+    use pokyandi::curve::DEFLECTION;
+    use pokyandi::line::{distance, START};
+
+    #[test]
+    fn the_ranges_of_document_01() {
+        assert_eq!(speeds(), [40, 50, 60, 70, 80, 90, 100, 110, 120]);
+        assert_eq!(range(CROSSFALL), (2, 12));
+        assert_eq!(range(START), (0, 200_000_000));
+        assert_eq!(range(distance(0)), (1, 20_000_000));
+        assert_eq!(range(distance(1)), (1, 20_000_000));
+        assert_eq!(range(curve(1) + DEFLECTION), (1, 432_000));
+        assert_eq!(radius_range(), (20_000, 5_000_000));
+        assert_eq!(editions(), [1]);
+        assert_eq!(greatest_spiral(350_000), 350_000);
+        assert_eq!(greatest_spiral(5_000_000), 500_000);
+        assert_eq!(most_curves(), 64);
+    }
+
+    #[test]
+    fn least_radii_and_spirals() {
+        let line = example();
+        assert_eq!(least_radius(&line), Some(167_751));
+        assert_eq!(least_spiral(&line, 350_000), Some(40_000));
+        assert_eq!(least_spiral(&line, 200_000), Some(61_740));
+        assert_eq!(tabled_spiral(&line), Some(40_000));
+        let slow = line.with(SPEED, 40).with(CROSSFALL, 12);
+        assert_eq!(least_spiral(&slow, 47_999), None);
+        assert_eq!(least_radius_with_spiral(&slow), Some(48_000));
+    }
+
+    #[test]
+    fn arcs_and_straights() {
+        let there = example().curve(1);
+        assert_eq!(least_deflection(there), Some(23_574));
+        let sharp = Curve {
+            deflection: 23_573,
+            ..there
+        };
+        assert_eq!(longest_spiral_with_arc(sharp), Some(39_998));
+        let flat = Curve {
+            deflection: 1,
+            radius: 200_000,
+            ..there
+        };
+        assert_eq!(longest_spiral_with_arc(flat), None);
+        let line = example().with(distance(0), 1);
+        assert_eq!(least_distance(&line, 0), Some(180_991));
+    }
+
+    #[test]
+    fn bytes_of_sheets() {
+        let sheet = example().sheet().unwrap();
+        for size in 7..21 {
+            assert_eq!(bytes_needed(&sheet[..size]), 21);
+        }
+        assert_eq!(bytes_needed(&[&sheet[..], &[0; 90]].concat()), 21);
+        assert_eq!(bytes_needed(&[]), 7);
+    }
+}

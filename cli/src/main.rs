@@ -1,0 +1,69 @@
+//! The command `pokyandi`, for people: it reads arguments, sheets and plain
+//! text, and prints. Every result is a number that a call of the proved library
+//! answered.
+
+mod arguments;
+mod check;
+mod console;
+mod decimal;
+mod elements;
+mod explain;
+mod field;
+mod fields;
+mod files;
+mod help;
+mod limits;
+mod line;
+mod make;
+mod quantity;
+mod sheets;
+mod show;
+mod stations;
+mod text;
+
+use arguments::Request;
+use console::{Console, Status};
+use std::env;
+use std::io;
+use std::process::ExitCode;
+
+fn main() -> ExitCode {
+    let words: Vec<_> = env::args_os().skip(1).collect();
+    let mut console = Console::new();
+    let ended = match arguments::read(&words) {
+        Ok(request) => answer(request, &mut console),
+        Err(problem) => {
+            console.say(&format!("pokyandi: {problem}"));
+            Ok(Status::Failed)
+        }
+    };
+    match ended.and_then(|status| console.finish().map(|()| status)) {
+        Ok(status) => status.into(),
+        Err(error) => {
+            console.fail(&"standard output", &error);
+            Status::Failed.into()
+        }
+    }
+}
+
+/// Does what is asked for. The error is that of standard output.
+fn answer(request: Request, console: &mut Console) -> io::Result<Status> {
+    match request {
+        Request::Help(text) => console.print(text.as_bytes()).map(|()| Status::Done),
+        Request::Version => version(console),
+        Request::Stations { form, sheets } => stations::run(form, sheets, console),
+        Request::Elements { sheets } => elements::run(sheets, console),
+        Request::Check { sheets } => check::run(sheets, console),
+        Request::Make { text, sheet } => make::run(&text, &sheet, console),
+        Request::Show { sheet } => show::run(&sheet, console),
+    }
+}
+
+/// The versions of the command and of the library that it is linked with.
+fn version(console: &mut Console) -> io::Result<Status> {
+    let number = pokyandi::version();
+    let [major, minor, patch] = [1_000_000, 1_000, 1].map(|unit| number / unit % 1_000);
+    let command = env!("CARGO_PKG_VERSION");
+    let text = format!("pokyandi {command}, library {major}.{minor}.{patch}\n");
+    console.print(text.as_bytes()).map(|()| Status::Done)
+}

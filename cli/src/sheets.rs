@@ -1,0 +1,100 @@
+//! Several sheets in one run: one that fails does not stop the others.
+
+use crate::console::{Console, Status};
+use crate::explain;
+use crate::files::{read_all, read_sheet, Name};
+use pokyandi::Refusal;
+use std::ffi::{OsStr, OsString};
+use std::io;
+use std::os::unix::ffi::{OsStrExt, OsStringExt};
+
+/// The sheets of a run, by their files' names.
+#[derive(Debug, PartialEq, Eq)]
+pub enum Sheets {
+    Named(Vec<OsString>),
+    /// The names stand in this file, a line each.
+    Listed(OsString),
+}
+
+/// A sheet that was read.
+pub struct Sheet<'a> {
+    pub name: &'a OsStr,
+    pub bytes: Vec<u8>,
+    /// Whether others are in the same run, so that its results want its name.
+    pub among_others: bool,
+}
+
+/// Does something with each sheet. The error is that of standard output.
+pub fn each(
+    sheets: Sheets,
+    console: &mut Console,
+    mut work: impl FnMut(&Sheet, &mut Console) -> io::Result<Status>,
+) -> io::Result<Status> {
+    let (names, among_others) = match sheets {
+        Sheets::Listed(list) => match read_all(&list) {
+            Ok(text) => (names_in(text), true),
+            Err(error) => return Ok(failed(console, &list, &error)),
+        },
+        Sheets::Named(names) => {
+            let several = names.len() > 1;
+            (names, several)
+        }
+    };
+    let mut worst = Status::Done;
+    for (i, name) in names.iter().enumerate() {
+        let status = match read_sheet(name) {
+            Ok(bytes) => work(
+                &Sheet {
+                    name,
+                    bytes,
+                    among_others,
+                },
+                console,
+            )?,
+            Err(error) => failed(console, name, &error),
+        };
+        worst = worst.max(status);
+        console.progress(i + 1, names.len());
+    }
+    Ok(worst)
+}
+
+fn failed(console: &mut Console, name: &OsStr, error: &io::Error) -> Status {
+    console.fail(&Name(name), error);
+    Status::Failed
+}
+
+/// The lines of a list that are not empty.
+fn names_in(text: Vec<u8>) -> Vec<OsString> {
+    let lines = text.split(|byte| *byte == b'\n');
+    let names = lines.map(|line| line.strip_suffix(b"\r").unwrap_or(line));
+    names
+        .filter(|name| !name.is_empty())
+        .map(|name| OsString::from_vec(name.to_vec()))
+        .collect()
+}
+
+impl Sheet<'_> {
+    /// The line above the sheet's results, where others are in the same run.
+    pub fn heading(&self) -> Vec<u8> {
+        match self.among_others {
+            true => [b"SHEET ", self.name.as_bytes(), b"\n"].concat(),
+            false => Vec::new(),
+        }
+    }
+
+    /// `REFUSED` with number and place for the results, and the words.
+    pub fn refuse(&self, refusal: Refusal, console: &mut Console) -> io::Result<Status> {
+        let Refusal { reason, place } = refusal;
+        let line = format!("REFUSED {} {place}\n", reason.number());
+        console.print(line.as_bytes())?;
+        self.explain(refusal, console);
+        Ok(Status::Refused)
+    }
+
+    /// Says why the sheet is refused.
+    pub fn explain(&self, refusal: Refusal, console: &mut Console) {
+        let words = explain::of_sheet(&self.bytes, refusal);
+        console.say(&format!("{}: {words}", Name(self.name)));
+    }
+}

@@ -1,0 +1,61 @@
+//! `pokyandi show`: the text of a sheet, which `make` takes back.
+
+use crate::console::{Console, Status};
+use crate::decimal::decimal;
+use crate::line::{Curve, Line};
+use crate::quantity::{degrees_in_letters, kilometres};
+use crate::sheets::{each, Sheets};
+use std::ffi::OsStr;
+use std::io;
+
+pub fn run(name: &OsStr, console: &mut Console) -> io::Result<Status> {
+    each(
+        Sheets::Named(vec![name.into()]),
+        console,
+        |sheet, console| match Line::of_sheet(&sheet.bytes) {
+            Ok(line) => console
+                .print(text_of(&line).as_bytes())
+                .map(|()| Status::Done),
+            Err(refusal) => sheet.refuse(refusal, console),
+        },
+    )
+}
+
+/// The text of a line.
+pub fn text_of(line: &Line) -> String {
+    let mut text = format!("speed {}km/h\n", line.speed());
+    text += &format!("crossfall {}%\n", line.crossfall());
+    text += &format!("start {}km\n", kilometres(line.start(), 3));
+    text += &distance(line, 0);
+    for i in 1..=line.curve_count() {
+        let Curve {
+            left,
+            deflection,
+            radius,
+            spiral,
+        } = line.curve(i);
+        let side = if left { "left" } else { "right" };
+        let angle = degrees_in_letters(deflection);
+        let [radius, spiral] = [radius, spiral].map(|mm| decimal(mm, 3));
+        text += &format!("curve {side} {angle} {radius}m {spiral}m  # {i}\n");
+        text += &distance(line, i);
+    }
+    text
+}
+
+fn distance(line: &Line, i: usize) -> String {
+    format!("distance {}m\n", decimal(line.distance(i), 3))
+}
+
+#[cfg(test)]
+mod tests {
+    use super::*;
+    use crate::line::example;
+    use crate::text::Text;
+
+    #[test]
+    fn the_text_of_a_line_is_that_line() {
+        let text = text_of(&example());
+        assert_eq!(Text::read(text.as_bytes()).unwrap().line, example());
+    }
+}

@@ -1,0 +1,154 @@
+//! `pokyandi stations`: the stations of sheets.
+
+use crate::console::{Console, Status};
+use crate::decimal::decimal;
+use crate::quantity::{estacas, kilometres};
+use crate::sheets::{each, Sheet, Sheets};
+use pokyandi::{Refusal, ROW_NUMBERS, TEXT_BYTES};
+use std::io;
+
+/// How stations are printed.
+#[derive(Clone, Copy, Debug, PartialEq, Eq)]
+pub enum Form {
+    Metres,
+    Kilometres,
+    Estacas,
+    Csv,
+}
+
+impl Form {
+    /// The form of this name.
+    pub fn named(name: &str) -> Option<Form> {
+        match name {
+            "metres" => Some(Form::Metres),
+            "km" => Some(Form::Kilometres),
+            "estaca" => Some(Form::Estacas),
+            "csv" => Some(Form::Csv),
+            _ => None,
+        }
+    }
+}
+
+pub fn run(form: Form, sheets: Sheets, console: &mut Console) -> io::Result<Status> {
+    if form == Form::Csv {
+        console.print(b"sheet,point,curve,station\n")?;
+    }
+    each(sheets, console, |sheet, console| match form {
+        Form::Metres => print_text(sheet, console),
+        Form::Kilometres => print_list(sheet, |station| kilometres(station, 6), console),
+        Form::Estacas => print_list(sheet, estacas, console),
+        Form::Csv => print_csv(sheet, console),
+    })
+}
+
+/// What the program `stations` prints.
+fn print_text(sheet: &Sheet, console: &mut Console) -> io::Result<Status> {
+    let mut text = [0; TEXT_BYTES];
+    // This many bytes are enough for every sheet.
+    let count = pokyandi::text(&sheet.bytes, &mut text).unwrap_or(0);
+    console.print(&sheet.heading())?;
+    console.print(&text[..count])?;
+    match pokyandi::check(&sheet.bytes) {
+        Ok(_) => Ok(Status::Done),
+        Err(refusal) => {
+            sheet.explain(refusal, console);
+            Ok(Status::Refused)
+        }
+    }
+}
+
+/// The same list, stations written in another way.
+fn print_list(
+    sheet: &Sheet,
+    written: impl Fn(u64) -> String,
+    console: &mut Console,
+) -> io::Result<Status> {
+    console.print(&sheet.heading())?;
+    let points = match points(&sheet.bytes) {
+        Ok(points) => points,
+        Err(refusal) => return sheet.refuse(refusal, console),
+    };
+    let mut text = String::from("POINT CURVE STATION\n");
+    for Point {
+        name,
+        curve,
+        station,
+    } in points
+    {
+        text += &format!("{name} {curve} {}\n", written(station));
+    }
+    console.print(text.as_bytes())?;
+    Ok(Status::Done)
+}
+
+/// A line for each point, with the sheet's name; a refusal is such a line too.
+fn print_csv(sheet: &Sheet, console: &mut Console) -> io::Result<Status> {
+    let name = quoted(&sheet.name.to_string_lossy());
+    let points = match points(&sheet.bytes) {
+        Ok(points) => points,
+        Err(refusal) => {
+            let Refusal { reason, place } = refusal;
+            let line = format!("{name},REFUSED,{},{place}\n", reason.number());
+            console.print(line.as_bytes())?;
+            sheet.explain(refusal, console);
+            return Ok(Status::Refused);
+        }
+    };
+    let mut text = String::new();
+    for Point {
+        name: point,
+        curve,
+        station,
+    } in points
+    {
+        text += &format!("{name},{point},{curve},{}\n", decimal(station, 6));
+    }
+    console.print(text.as_bytes())?;
+    Ok(Status::Done)
+}
+
+/// A name as a field of CSV.
+fn quoted(name: &str) -> String {
+    match name.contains([',', '"', '\n', '\r']) {
+        true => format!("\"{}\"", name.replace('"', "\"\"")),
+        false => name.to_string(),
+    }
+}
+
+/// A station, µm, with the name of its point and the number of its curve.
+struct Point {
+    name: &'static str,
+    curve: usize,
+    station: u64,
+}
+
+/// The points of a sheet in order; the end has curve 0.
+fn points(sheet: &[u8]) -> Result<Vec<Point>, Refusal> {
+    const NAMES: [&str; 4] = ["TS", "SC", "CS", "ST"];
+    let mut row = [0; ROW_NUMBERS];
+    let count = pokyandi::stations(sheet, &mut row)?;
+    let point = |(i, &station): (usize, &u64)| match i + 1 == count {
+        true => Point {
+            name: "END",
+            curve: 0,
+            station,
+        },
+        false => Point {
+            name: NAMES[i % 4],
+            curve: i / 4 + 1,
+            station,
+        },
+    };
+    Ok(row[..count].iter().enumerate().map(point).collect())
+}
+
+#[cfg(test)]
+mod tests {
+    use super::*;
+
+    #[test]
+    fn names_in_csv() {
+        assert_eq!(quoted("a b.sheet"), "a b.sheet");
+        assert_eq!(quoted("a,\"b\".sheet"), "\"a,\"\"b\"\".sheet\"");
+    }
+}

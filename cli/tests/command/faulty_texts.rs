@@ -1,0 +1,88 @@
+//! Faulty texts: each has its own words, status 1, and the old sheet is kept.
+
+use crate::run::{run, Folder, Run};
+use std::collections::BTreeSet;
+use std::fs;
+
+const TEXT: &str = "\
+speed 70
+crossfall 8
+start 0
+distance 500m
+curve right 49d22m44s 350m 40m
+distance 400m
+";
+
+const FAULTS: &str = include_str!("faulty_texts.txt");
+
+/// Makes a text over an old sheet, which must be as it was then.
+fn make_over_old(folder: &Folder, text: &[u8]) -> Run {
+    let sheet = folder.file("line.sheet", b"old");
+    let text = folder.file("line.txt", text);
+    let run = run(&["make".as_ref(), text.as_os_str(), sheet.as_os_str()]);
+    assert_eq!(fs::read(&sheet).unwrap(), b"old");
+    assert_eq!(folder.names(), ["line.sheet", "line.txt"]);
+    run
+}
+
+fn check_fault(folder: &Folder, text: &[u8], words: &str) {
+    let run = make_over_old(folder, text);
+    let expected = format!("{}:{words}\n", folder.path("line.txt").display());
+    assert_eq!(
+        (run.words, run.status, run.out.len()),
+        (expected, Some(1), 0)
+    );
+}
+
+/// The text with this line, from 1, in place of its own, or behind it.
+fn with_line(number: usize, line: &str) -> String {
+    let mut lines: Vec<&str> = TEXT.lines().collect();
+    lines.resize(lines.len().max(number), "");
+    lines[number - 1] = line;
+    lines.join("\n") + "\n"
+}
+
+#[test]
+fn faulty_lines() {
+    let folder = Folder::new();
+    let mut told = BTreeSet::new();
+    for fault in FAULTS.lines().skip(1) {
+        let [number, line, words] = fault.splitn(3, '|').collect::<Vec<_>>().try_into().unwrap();
+        check_fault(
+            &folder,
+            with_line(number.parse().unwrap(), line).as_bytes(),
+            words,
+        );
+        assert!(told.insert(words), "two faults have the words: {words}");
+    }
+    assert!(told.len() >= 40);
+}
+
+#[test]
+fn faulty_texts_as_a_whole() {
+    let folder = Folder::new();
+    let utf_16: Vec<u8> = "\u{feff}speed 70\n"
+        .encode_utf16()
+        .flat_map(u16::to_le_bytes)
+        .collect();
+    let latin_1 = TEXT
+        .as_bytes()
+        .iter()
+        .map(|byte| if *byte == b'd' { 0xB0 } else { *byte });
+    let latin_1: Vec<u8> = latin_1.collect();
+    let curve = "curve right 49d22m44s 350m 40m\ndistance 400m\n";
+    let cases: [(Vec<u8>, &str); 6] = [
+        (vec![], "1: the text ends where speed is wanted, as in: speed 70"),
+        (b"# nothing\n\n".to_vec(), "1: the text ends where speed is wanted, as in: speed 70"),
+        (utf_16, "1: the text is UTF-16: save it as UTF-8"),
+        (latin_1, "1: a letter is not UTF-8: save the text as UTF-8, or write angles as 49d22m44s"),
+        (b"\x10\x11\x1b[2J 5".to_vec(), "1: \"\\u{10}\\u{11}\\u{1b}[2J\" stands where speed is wanted, as in: speed 70"),
+        (
+            (TEXT.to_string() + &curve.repeat(64)).into_bytes(),
+            "133: curve right 49d22m44s 350m 40m: refused 3: the line has 65 curves; it may have 64",
+        ),
+    ];
+    for (text, words) in cases {
+        check_fault(&folder, &text, words);
+    }
+}

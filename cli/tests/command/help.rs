@@ -1,0 +1,87 @@
+//! The help: every example in it prints what it says.
+
+use crate::run::{run, run_in_shell};
+
+const SUBCOMMANDS: [&str; 5] = ["stations", "elements", "check", "make", "show"];
+
+/// The commands of a help text's examples, each with what it prints.
+fn examples(help: &str) -> Vec<(String, String)> {
+    let mut examples: Vec<(String, String)> = Vec::new();
+    let mut inside = false;
+    for line in help.lines() {
+        let Some(line) = line.strip_prefix("    ") else {
+            inside = false;
+            continue;
+        };
+        if let Some(command) = line.strip_prefix("$ ") {
+            examples.push((command.to_string(), String::new()));
+            inside = true;
+        } else if inside {
+            let (_, printed) = examples.last_mut().unwrap();
+            *printed += &format!("{line}\n");
+        }
+    }
+    examples
+}
+
+#[test]
+fn the_examples_print_what_the_help_says() {
+    let general = run(&["--help"]);
+    let others = SUBCOMMANDS.map(|subcommand| run(&[subcommand, "--help"]));
+    for help in [general].into_iter().chain(others) {
+        assert_eq!((help.status, help.words.as_str()), (Some(0), ""));
+        let examples = examples(&help.text());
+        assert!(!examples.is_empty(), "{}", help.text());
+        for (command, printed) in examples {
+            let run = run_in_shell(&format!("{command} 2>&1"));
+            assert_eq!(run.text(), printed, "{command}");
+        }
+    }
+}
+
+#[test]
+fn the_help_lists_the_subcommands() {
+    let help = run(&["--help"]).text();
+    for subcommand in SUBCOMMANDS {
+        assert!(
+            help.contains(&format!("pokyandi {subcommand} ")),
+            "{subcommand}"
+        );
+    }
+}
+
+#[test]
+fn wrong_usage_has_status_2_and_no_results() {
+    let lines: [&[&str]; 14] = [
+        &[],
+        &["station"],
+        &["--verbose"],
+        &["stations", "--as"],
+        &["stations", "--as", "feet"],
+        &["stations", "--list"],
+        &["stations", "--list", "a", "b.sheet"],
+        &["elements"],
+        &["elements", "--as", "km", "a.sheet"],
+        &["check"],
+        &["make"],
+        &["make", "a.txt"],
+        &["make", "a.txt", "b.sheet", "c.sheet"],
+        &["show", "a.sheet", "b.sheet"],
+    ];
+    for line in lines {
+        let run = run(line);
+        assert_eq!((run.status, run.out.len()), (Some(2), 0), "{line:?}");
+        assert!(
+            run.words.starts_with("pokyandi: "),
+            "{line:?}: {}",
+            run.words
+        );
+    }
+}
+
+#[test]
+fn versions() {
+    let version = env!("CARGO_PKG_VERSION");
+    let text = run(&["--version"]).text();
+    assert_eq!(text, format!("pokyandi {version}, library {version}\n"));
+}

@@ -1,0 +1,10 @@
+//! The command as people run it: its output, its words, its exit status, and what
+//! it leaves in files.
+
+mod failures;
+mod faulty_texts;
+mod help;
+mod made;
+mod random_lines;
+mod run;
+mod several;
