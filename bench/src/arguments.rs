@@ -3,7 +3,8 @@
 use std::path::{Path, PathBuf};
 
 pub const USAGE: &str = "\
-usage: bench [--rounds N] [--quick] [--program PATH] [--reference-program PATH]
+usage: bench [--rounds N] [--quick] [--program PATH] [--command PATH]
+             [--reference-program PATH]
 
 Times the proved library against the reference, in alternate rounds of the same
 calls, and prints the medians. Fails when an answer of the two differs; never by
@@ -12,6 +13,7 @@ time.
   --rounds N                rounds of each call, 201 unless given
   --quick                   a few short rounds, in a second or two
   --program PATH            the station program, else target/bin/stations
+  --command PATH            the command pokyandi, else target/bin/pokyandi
   --reference-program PATH  the reference's program, else
                             reference/target/release/reference
   --help                    print this text
@@ -38,6 +40,7 @@ pub struct Options {
     pub rounds: Option<usize>,
     pub quick: bool,
     pub program: Option<PathBuf>,
+    pub command: Option<PathBuf>,
     pub reference_program: Option<PathBuf>,
 }
 
@@ -65,6 +68,7 @@ fn read_options(words: &[&str]) -> Result<Options, String> {
             "--quick" => options.quick = true,
             "--rounds" => options.rounds = Some(number(value()?)?),
             "--program" => options.program = Some(PathBuf::from(value()?)),
+            "--command" => options.command = Some(PathBuf::from(value()?)),
             "--reference-program" => options.reference_program = Some(PathBuf::from(value()?)),
             _ => return Err(format!("{word} is no option")),
         }
@@ -92,6 +96,26 @@ pub fn from_top(path: &str) -> PathBuf {
     bench.with_file_name("").join(path)
 }
 
+/// The program that an option names, which must be there, or the one at its usual
+/// place; nothing, with a note, where that one is missing.
+pub fn find(named: &Option<PathBuf>, usual: &str) -> Result<Option<PathBuf>, String> {
+    let path = named.clone().unwrap_or(from_top(usual));
+    if path.is_file() {
+        return Ok(Some(path));
+    }
+    let missing = told(&path, &"it is missing");
+    if named.is_some() {
+        return Err(missing);
+    }
+    eprintln!("bench: {missing}: it is not timed");
+    Ok(None)
+}
+
+/// What is wrong with a file or program.
+pub fn told(path: &Path, problem: &dyn std::fmt::Display) -> String {
+    format!("{}: {problem}", path.display())
+}
+
 #[cfg(test)]
 mod tests {
     use super::*;
@@ -109,6 +133,7 @@ mod tests {
         assert!(options.quick);
         assert_eq!(options.rounds(), 7);
         assert_eq!(options.program, Some(PathBuf::from("p")));
+        assert_eq!(options.command, None);
         assert_eq!(options.reference_program, None);
     }
 

@@ -3,6 +3,7 @@
 
 mod arguments;
 mod baseline;
+mod command;
 mod compare;
 mod inputs;
 mod job;
@@ -72,6 +73,7 @@ fn once(job: &str, side: &str, times: usize) -> Result<(), String> {
 
 fn measure_all(options: &Options) -> Result<(), String> {
     let programs = Programs::find(options)?;
+    let command = command::Programs::find(options)?;
     let inputs = Inputs::make();
     for job in JOBS {
         compare(job, &inputs)?;
@@ -85,7 +87,11 @@ fn measure_all(options: &Options) -> Result<(), String> {
         Some(programs) => Some(programs::measure(&programs, options.rounds())?),
         None => None,
     };
-    print_notes(&inputs, process);
+    let rates = match command {
+        Some(programs) => Some(command::measure(&programs, options, &inputs)?),
+        None => None,
+    };
+    print_notes(&inputs, process, rates);
     Ok(())
 }
 
@@ -99,11 +105,14 @@ fn print_preface(options: &Options, inputs: &Inputs) {
 }
 
 /// `process` is the time of a process that does nothing, ns, where programs were
-/// timed.
-fn print_notes(inputs: &Inputs, process: Option<f64>) {
+/// timed; `rates` is what the command does in a second.
+fn print_notes(inputs: &Inputs, process: Option<f64>, rates: Option<String>) {
     println!("\n(*) The reference has no call for a check: it reads and calculates.");
     if let Some(time) = process {
         println!("(**) Process start dominates: `true`, which does nothing, takes {time:.0} ns.");
+    }
+    if let Some(rates) = rates {
+        println!("(***) Times of one sheet, read from its file, in metres. {rates}");
     }
     let difference = largest_baseline_difference(inputs);
     println!("C f64: plain C with libm, no checks; at most {difference:.1} µm from the library.");

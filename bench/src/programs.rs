@@ -1,7 +1,7 @@
 //! The station program and the reference's, run with a sheet on standard input;
 //! the reference takes it in hexadecimal digits.
 
-use crate::arguments::{from_top, Options};
+use crate::arguments::{find, told, Options};
 use crate::inputs::mountain_road;
 use crate::measure::{alternate, Work};
 use crate::table::print_row;
@@ -29,21 +29,6 @@ impl Programs {
             reference,
         }))
     }
-}
-
-/// The program that an option names, which must be there, or the one at its usual
-/// place.
-fn find(named: &Option<PathBuf>, usual: &str) -> Result<Option<PathBuf>, String> {
-    let path = named.clone().unwrap_or(from_top(usual));
-    if path.is_file() {
-        return Ok(Some(path));
-    }
-    let missing = format!("{} is missing", path.display());
-    if named.is_some() {
-        return Err(missing);
-    }
-    eprintln!("bench: {missing}: the programs are not timed");
-    Ok(None)
 }
 
 /// A program's input, which is removed in the end.
@@ -100,8 +85,4 @@ fn run_program(path: &Path, arguments: &[&str], file: &Path, expected: &str) -> 
         return Err(told(path, &"prints other than the reference's report"));
     }
     Ok(())
-}
-
-fn told(path: &Path, problem: &dyn std::fmt::Display) -> String {
-    format!("{}: {problem}", path.display())
 }

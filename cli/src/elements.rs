@@ -1,10 +1,10 @@
 //! `pokyandi elements`: the elements of every curve of sheets, and the straights.
 
 use crate::console::{Console, Status};
-use crate::decimal::decimal;
 use crate::line::Line;
 use crate::sheets::{each, Sheet, Sheets};
 use pokyandi::{Refusal, ROW_NUMBERS};
+use std::fmt::Write;
 use std::io;
 
 pub fn run(sheets: Sheets, console: &mut Console) -> io::Result<Status> {
@@ -18,7 +18,9 @@ pub fn run(sheets: Sheets, console: &mut Console) -> io::Result<Status> {
 }
 
 /// The columns of a curve's elements, in the order of the library.
-const HEADING: [&str; 7] = ["CURVE", "X", "Y", "k", "p", "D", "TT"];
+const CURVES: &str =
+    "CURVE                X             Y             k             p             D            TT\n";
+const STRAIGHTS: &str = "STRAIGHT        LENGTH\n";
 
 /// Both tables, in metres.
 fn tables(sheet: &Sheet) -> Result<String, Refusal> {
@@ -27,35 +29,34 @@ fn tables(sheet: &Sheet) -> Result<String, Refusal> {
     let line = Line::of_sheet(&sheet.bytes)?;
     let mut text = String::new();
     if line.curve_count() > 0 {
-        text += &columns(&HEADING.map(String::from));
+        text += CURVES;
     }
     for i in 1..=line.curve_count() {
-        let mut cells = vec![i.to_string()];
-        cells.extend(line.curve(i).elements()?.map(|um| decimal(um, 6)));
-        text += &columns(&cells);
+        put_row(&mut text, i, &line.curve(i).elements()?);
     }
-    text += &columns(&["STRAIGHT", "LENGTH"].map(String::from));
-    for (i, straight) in straights(1_000 * line.start(), &row[..count])
-        .iter()
-        .enumerate()
-    {
-        text += &columns(&[i.to_string(), decimal(*straight, 6)]);
+    text += STRAIGHTS;
+    let straights = straights(1_000 * line.start(), &row[..count]);
+    for (i, straight) in straights.enumerate() {
+        put_row(&mut text, i, &[straight]);
     }
     Ok(text)
 }
 
 /// The straights between start, stations and end, µm: from ST to the next TS.
-fn straights(start: u64, row: &[u64]) -> Vec<u64> {
-    let begins = [start]
-        .into_iter()
-        .chain(row.iter().skip(3).step_by(4).copied());
-    let ends = row.iter().step_by(4);
-    begins.zip(ends).map(|(begin, end)| end - begin).collect()
+fn straights(start: u64, row: &[u64]) -> impl Iterator<Item = u64> + '_ {
+    let ends_of_curves = row.iter().skip(3).step_by(4).copied();
+    let begins = [start].into_iter().chain(ends_of_curves);
+    begins
+        .zip(row.iter().step_by(4))
+        .map(|(begin, end)| end - begin)
 }
 
-/// A line of cells, the first to the left, the others to the right.
-fn columns(cells: &[String]) -> String {
-    let (first, others) = (&cells[0], &cells[1..]);
-    let others: String = others.iter().map(|cell| format!(" {cell:>13}")).collect();
-    format!("{first:<8}{others}\n")
+/// A line of a table: a number, and lengths of µm in metres.
+fn put_row(text: &mut String, number: usize, lengths: &[u64]) {
+    // A text takes all that is written to it.
+    let _ = write!(text, "{number:<8}");
+    for um in lengths {
+        let _ = write!(text, " {:>6}.{:06}", um / 1_000_000, um % 1_000_000);
+    }
+    text.push('\n');
 }

@@ -13,7 +13,7 @@ pub fn of_sheet(sheet: &[u8], refusal: Refusal) -> String {
     let (edition, line) = fields_of(sheet);
     match refusal.reason {
         Reason::Truncated | Reason::Trailing => headed(refusal, bytes(sheet, &line)),
-        Reason::Edition => headed(refusal, other_edition(edition)),
+        Reason::Edition => headed(refusal, other_edition(sheet, edition)),
         _ => of_line(&line, refusal),
     }
 }
@@ -33,7 +33,7 @@ pub fn of_line(line: &Line, refusal: Refusal) -> String {
         Reason::Spiral => long_spiral(curve()),
         Reason::LeastRadius => least_radius(line, curve()),
         Reason::LeastSpiral => least_spiral(line, curve()),
-        Reason::ShortArc => short_arc(curve()),
+        Reason::ShortArc => short_arc(line, curve()),
         Reason::ShortStraight => short_straight(line, place),
         other => other.words().to_string(),
     };
@@ -72,10 +72,17 @@ fn bytes(sheet: &[u8], line: &Line) -> String {
     }
 }
 
-fn other_edition(edition: u64) -> String {
+fn other_edition(sheet: &[u8], edition: u64) -> String {
     let editions: Vec<String> = limits::editions().iter().map(u8::to_string).collect();
+    let is_text = sheet
+        .iter()
+        .all(|byte| *byte >= b' ' || byte.is_ascii_whitespace());
+    let hint = match is_text {
+        true => "; it looks like a text, whose sheet pokyandi make makes",
+        false => "",
+    };
     format!(
-        "the edition is {edition}; it may be {}",
+        "the edition is {edition}; it may be {}{hint}",
         editions.join(" or ")
     )
 }
@@ -91,7 +98,7 @@ pub fn counted(count: usize, name: &str) -> String {
 
 fn curve_count(line: &Line) -> String {
     format!(
-        "the line has {}; it may have {}",
+        "the line has {}; it may have {} at most",
         curves(line),
         limits::most_curves()
     )
@@ -104,16 +111,23 @@ fn long_spiral(Curve { radius, spiral, .. }: Curve) -> String {
 }
 
 fn least_radius(line: &Line, Curve { radius, .. }: Curve) -> String {
-    let limit = match limits::least_radius(line) {
-        Some(least) => format!("the least is {}", metres_of_mm(least)),
-        None => "no radius is large enough".into(),
-    };
-    format!(
-        "the radius is {}; {limit}, by V² / (127 (e + f)) at V = {} km/h, e = {} % and the table's f",
-        metres_of_mm(radius),
-        line.speed(),
-        line.crossfall()
-    )
+    let (speed, crossfall) = (line.speed(), line.crossfall());
+    let found = format!("the radius is {}", metres_of_mm(radius));
+    let formula = format!("by V² / (127 (e + f)) at V = {speed} km/h, e = {crossfall} %");
+    match limits::least_radius(line) {
+        Some(least) => {
+            let friction = friction(line, least);
+            let least = metres_of_mm(least);
+            format!("{found}; the least is {least}, {formula} and f = 0.{friction:02}")
+        }
+        None => format!("{found}; no radius is large enough, {formula} and the table's f"),
+    }
+}
+
+/// The table's f in hundredths, which the least radius in mm tells.
+fn friction(line: &Line, least_radius: u64) -> u64 {
+    let sum = (100_000 * line.speed().pow(2)).div_ceil(127 * least_radius);
+    sum.saturating_sub(line.crossfall())
 }
 
 fn least_spiral(line: &Line, Curve { radius, spiral, .. }: Curve) -> String {
@@ -144,32 +158,34 @@ fn least_spiral(line: &Line, Curve { radius, spiral, .. }: Curve) -> String {
     )
 }
 
-fn short_arc(curve: Curve) -> String {
-    let Curve {
-        deflection,
-        radius,
-        spiral,
-        ..
-    } = curve;
+fn short_arc(line: &Line, curve: Curve) -> String {
     // The arc of a simple curve, R A, less L.
-    let found = match (Curve { spiral: 0, ..curve }.elements()) {
-        Ok(numbers) => format!(
-            "is {}, ",
-            metres_of_um(numbers[element::D] as i64 - 1_000 * spiral as i64)
-        ),
-        Err(_) => "is ".into(),
-    };
+    let simple = Curve { spiral: 0, ..curve }.elements();
+    let found = simple.map_or("is under 1 mm".into(), |numbers| {
+        let arc = numbers[element::D] as i64 - 1_000 * curve.spiral as i64;
+        format!("is {}, under 1 mm", metres_of_um(arc))
+    });
     let least = limits::least_deflection(curve).map_or("none".into(), degrees);
-    let longest = match limits::longest_spiral_with_arc(curve) {
-        Some(spiral) => format!(", or spirals of {} at most", metres_of_mm(spiral)),
-        None => String::new(),
-    };
-    let [radius, spiral] = [radius, spiral].map(metres_of_mm);
-    let deflection = degrees(deflection);
+    let [radius, spiral] = [curve.radius, curve.spiral].map(metres_of_mm);
     format!(
-        "the arc {found}under 1 mm, by R A - L at R = {radius}, A = {deflection} and L = {spiral}; \
-         it takes a deflection of {least} at least{longest}"
+        "the arc {found}, by R A - L at R = {radius}, A = {} in radians and L = {spiral}; \
+         it takes a deflection of {least} at least{}",
+        degrees(curve.deflection),
+        shorter_spirals(line, curve)
     )
+}
+
+/// Which spirals would leave an arc, of those that are long enough.
+fn shorter_spirals(line: &Line, curve: Curve) -> String {
+    let longest = limits::longest_spiral_with_arc(curve);
+    let least = limits::least_spiral(line, curve.radius);
+    match (longest, least) {
+        (Some(longest), Some(least)) if least <= longest => {
+            format!(", or spirals of {} at most", metres_of_mm(longest))
+        }
+        (Some(_), _) => ", or no spirals".into(),
+        _ => String::new(),
+    }
 }
 
 fn short_straight(line: &Line, i: usize) -> String {
@@ -200,4 +216,82 @@ fn tangent(line: &Line, i: usize) -> Option<u64> {
     let is_there = (1..=line.curve_count()).contains(&i);
     let elements = is_there.then(|| line.curve(i).elements())?;
     elements.ok().map(|numbers| numbers[element::TT])
+}
+
+#[cfg(test)]
+mod tests {
+    use super::*;
+    use crate::line::example;
+    use pokyandi::line::{curve, CROSSFALL, SPEED};
+
+    fn sentence(line: &Line) -> String {
+        of_line(line, line.check().unwrap_err())
+    }
+
+    #[test]
+    fn the_least_radius_tells_f() {
+        let table = [18, 16, 15, 15, 14, 14, 13, 12, 11];
+        for (speed, f) in limits::speeds().into_iter().zip(table) {
+            for crossfall in 2..=12 {
+                let line = example().with(SPEED, speed).with(CROSSFALL, crossfall);
+                assert_eq!(friction(&line, limits::least_radius(&line).unwrap()), f);
+            }
+        }
+    }
+
+    #[test]
+    fn spirals_that_are_too_short_for_their_radius() {
+        let spiral = curve(1) + pokyandi::curve::SPIRAL;
+        let radius = curve(1) + pokyandi::curve::RADIUS;
+        let wide = example().with(radius, 200_000).with(spiral, 61_739);
+        assert_eq!(
+            sentence(&wide),
+            "refused 13 at curve 1: the spiral is 61.739 m; the least is 61.740 m, \
+             by 0.036 V³ / R at V = 70 km/h and R = 200.000 m"
+        );
+        let narrow = example().with(SPEED, 40).with(CROSSFALL, 12);
+        let narrow = narrow.with(radius, 47_999).with(spiral, 47_999);
+        assert_eq!(
+            sentence(&narrow),
+            "refused 13 at curve 1: the spiral is 47.999 m; none is long enough, \
+             by 0.036 V³ / R at V = 40 km/h and R = 47.999 m; \
+             it takes a radius of 48.000 m at least, or no spirals"
+        );
+    }
+
+    #[test]
+    fn arcs_that_other_spirals_would_leave() {
+        let deflection = curve(1) + pokyandi::curve::DEFLECTION;
+        let spiral = curve(1) + pokyandi::curve::SPIRAL;
+        let long = example().with(deflection, 30_000).with(spiral, 60_000);
+        assert!(sentence(&long).ends_with(", or spirals of 50.904 m at most"));
+        let short = example().with(deflection, 23_573);
+        assert!(sentence(&short).ends_with(", or no spirals"));
+        let none = example().with(deflection, 1).with(spiral, 0);
+        let radius = curve(1) + pokyandi::curve::RADIUS;
+        assert!(sentence(&none.with(radius, 200_000)).ends_with(" of 0°00'02\" at least"));
+    }
+
+    #[test]
+    fn straights_between_two_curves() {
+        let mut line = example();
+        line.numbers.extend_from_within(5..);
+        line.numbers[0] = 2;
+        let line = line.with(pokyandi::line::distance(1), 361_978);
+        assert_eq!(
+            sentence(&line),
+            "refused 15 at distance 1: the straight is -0.000556 m, under 1 mm, by 361.978 m less \
+             TT 180.989278 m of curve 1 and TT 180.989278 m of curve 2; it takes a distance of 361.980 m at least"
+        );
+    }
+
+    #[test]
+    fn a_text_that_is_taken_for_a_sheet() {
+        let text = b"speed 70\ncrossfall 8\n";
+        let refusal = pokyandi::check(text).unwrap_err();
+        assert_eq!(
+            of_sheet(text, refusal),
+            "refused 2: the edition is 7; it may be 1; it looks like a text, whose sheet pokyandi make makes"
+        );
+    }
 }

@@ -1,5 +1,5 @@
-//! What `--help` prints. The examples are run by a test (`tests/help.rs`), in the
-//! folder `samples`.
+//! What `--help` prints. The examples are run by a test (`tests/command/help.rs`), from
+//! the repository's top.
 
 macro_rules! usage {
     () => {
@@ -32,12 +32,13 @@ make       the sheet of a plain text
 show       the text of a sheet
 
 The name - stands for standard input, as a sheet that is made for standard output.
+Where several sheets are taken, --list FILE takes those that FILE names.
 Exit status: 0 done; 1 a sheet is refused or a text is faulty; 2 wrong usage, or
 reading or writing failed. Results go to standard output, words to standard error.
 
 From a plain text to stations:
 
-    $ pokyandi make line.txt /tmp/line.sheet
+    $ pokyandi make samples/line.txt /tmp/line.sheet
     /tmp/line.sheet: written, 21 bytes, 1 curve
     $ pokyandi stations /tmp/line.sheet
     POINT CURVE STATION
@@ -73,14 +74,15 @@ gets REFUSED, number and place instead, and words on standard error.
   --as metres   319.010722, as the program stations prints it (the usual form)
   --as km       0+319.010722, kilometres and metres
   --as estaca   15 + 19.010722, estacas of 20 m and metres
-  --as csv      sheet,point,curve,station with one heading for all sheets
+  --as csv      sheet,point,curve,station with one heading for all sheets; of a
+                refused one REFUSED, number and place stand for the point
   --list FILE   the sheets are those that FILE names, a line each
 
 Without a sheet it reads standard input, as for the name -. Several sheets each get
 a line SHEET NAME above their stations, but for csv; one that is refused or cannot
 be read does not stop the others.
 
-    $ pokyandi stations --as km stations/case-01.sheet
+    $ pokyandi stations --as km samples/stations/case-01.sheet
     POINT CURVE STATION
     TS 1 0+319.010722
     SC 1 0+359.010722
@@ -100,7 +102,7 @@ tangents leave of distance i, from ST of curve i to TS of the next.
 
   --list FILE   the sheets are those that FILE names, a line each
 
-    $ pokyandi elements stations/case-01.sheet
+    $ pokyandi elements samples/stations/case-01.sheet
     CURVE                X             Y             k             p             D            TT
     1            39.986940      0.761727     19.997823      0.190454    261.638467    180.989278
     STRAIGHT        LENGTH
@@ -118,9 +120,9 @@ formula behind it.
 
   --list FILE   the sheets are those that FILE names, a line each
 
-    $ pokyandi check stations/case-01.sheet stations/case-05-refused.sheet
-    stations/case-01.sheet: fine, 1 curve, end at 0+879.659911 km
-    stations/case-05-refused.sheet: refused 12 at curve 1: the radius is 167.750 m; the least is 167.751 m, by V² / (127 (e + f)) at V = 70 km/h, e = 8 % and the table's f
+    $ pokyandi check samples/stations/case-01.sheet samples/stations/case-05-refused.sheet
+    samples/stations/case-01.sheet: fine, 1 curve, end at 0+879.659911 km
+    samples/stations/case-05-refused.sheet: refused 12 at curve 1: the radius is 167.750 m; the least is 167.751 m, by V² / (127 (e + f)) at V = 70 km/h, e = 8 % and f = 0.15
 ";
 
 const MAKE: &str = "\
@@ -146,8 +148,9 @@ written in one of these forms:
     617+0.00e                estacas of 20 m, and metres
     177764                   seconds of arc
     49d22m44s  49°22'44\"     degrees, minutes and seconds
+    49.5d                    degrees
 
-Speed is in km/h, crossfall in percent. What is finer than a mm or a second is an
+Speed is in km/h; crossfall, the greatest superelevation e, in percent. What is finer than a mm or a second is an
 error. # begins a comment; blank lines, tabs, a byte order mark and CRLF are taken.
 
 The sheet is written beside the old one, read back and renamed: after an error the
@@ -155,7 +158,7 @@ old one is as it was. Where the stations of the line are refused the sheet is ma
 all the same, for the exchange; words say why, and the exit status is 1. A value
 that is probably in the wrong unit gets a warning.
 
-    $ pokyandi make line.txt /tmp/line.sheet
+    $ pokyandi make samples/line.txt /tmp/line.sheet
     /tmp/line.sheet: written, 21 bytes, 1 curve
 ";
 
@@ -164,7 +167,7 @@ usage: pokyandi show SHEET
 
 Prints the text of a sheet, which pokyandi make takes back to the same bytes.
 
-    $ pokyandi show stations/case-01.sheet
+    $ pokyandi show samples/stations/case-01.sheet
     speed 70km/h
     crossfall 8%
     start 0+000.000km

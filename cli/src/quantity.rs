@@ -4,6 +4,7 @@
 use crate::decimal::{decimal, units_in, Fault};
 
 const MM_IN_M: u64 = 1_000;
+const UM_IN_M: u64 = 1_000_000;
 const M_IN_KM: u64 = 1_000;
 /// An estaca, the stake interval of some offices.
 const M_IN_ESTACA: u64 = 20;
@@ -20,7 +21,7 @@ pub struct Quantity {
 /// How lengths are written, for messages.
 pub const LENGTH_FORMS: &str = "310500 (mm), 310.5m, 12+340.5km or 617+0.00e";
 /// How angles are written, for messages.
-pub const ANGLE_FORMS: &str = "177764 (seconds), 49d22m44s or 49°22'44\"";
+pub const ANGLE_FORMS: &str = "177764 (seconds), 49d22m44s, 49.5d or 49°22'44\"";
 
 /// A length in mm.
 pub fn length(word: &str) -> Result<Quantity, String> {
@@ -98,7 +99,7 @@ pub fn angle(word: &str) -> Result<Quantity, String> {
     };
     Ok(Quantity {
         value,
-        has_unit: parts[0].1 != "",
+        has_unit: !parts[0].1.is_empty(),
     })
 }
 
@@ -220,15 +221,17 @@ fn degree_parts(seconds: u64) -> [u64; 3] {
 /// A station in kilometres and metres, `12+340.500` where there are three
 /// decimals; the number counts the smallest of them.
 pub fn kilometres(station: u64, decimals: usize) -> String {
-    let km = M_IN_KM * 10_u64.pow(decimals as u32);
-    let metres = decimal(station % km, decimals);
-    format!("{}+{metres:0>width$}", station / km, width = decimals + 4)
+    let metre = 10_u64.pow(decimals as u32);
+    let (metres, rest) = (station / metre, station % metre);
+    let (km, metres) = (metres / M_IN_KM, metres % M_IN_KM);
+    format!("{km}+{metres:03}.{rest:0decimals$}")
 }
 
 /// A station of µm in estacas and metres: `15 + 19.010722`.
 pub fn estacas(um: u64) -> String {
-    let estaca = M_IN_ESTACA * 1_000_000;
-    format!("{} + {}", um / estaca, decimal(um % estaca, 6))
+    let (metres, rest) = (um / UM_IN_M, um % UM_IN_M);
+    let (estacas, metres) = (metres / M_IN_ESTACA, metres % M_IN_ESTACA);
+    format!("{estacas} + {metres}.{rest:06}")
 }
 
 #[cfg(test)]

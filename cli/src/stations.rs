@@ -5,6 +5,7 @@ use crate::decimal::decimal;
 use crate::quantity::{estacas, kilometres};
 use crate::sheets::{each, Sheet, Sheets};
 use pokyandi::{Refusal, ROW_NUMBERS, TEXT_BYTES};
+use std::fmt::Write;
 use std::io;
 
 /// How stations are printed.
@@ -75,20 +76,22 @@ fn print_list(
         station,
     } in points
     {
-        text += &format!("{name} {curve} {}\n", written(station));
+        // A text takes all that is written to it.
+        let _ = writeln!(text, "{name} {curve} {}", written(station));
     }
     console.print(text.as_bytes())?;
     Ok(Status::Done)
 }
 
-/// A line for each point, with the sheet's name; a refusal is such a line too.
+/// A line for each point, with the sheet's name. A refusal stands in the point's
+/// column, so that no number of it is taken for a station.
 fn print_csv(sheet: &Sheet, console: &mut Console) -> io::Result<Status> {
     let name = quoted(&sheet.name.to_string_lossy());
     let points = match points(&sheet.bytes) {
         Ok(points) => points,
         Err(refusal) => {
             let Refusal { reason, place } = refusal;
-            let line = format!("{name},REFUSED,{},{place}\n", reason.number());
+            let line = format!("{name},REFUSED {} {place},,\n", reason.number());
             console.print(line.as_bytes())?;
             sheet.explain(refusal, console);
             return Ok(Status::Refused);
@@ -101,7 +104,7 @@ fn print_csv(sheet: &Sheet, console: &mut Console) -> io::Result<Status> {
         station,
     } in points
     {
-        text += &format!("{name},{point},{curve},{}\n", decimal(station, 6));
+        let _ = writeln!(text, "{name},{point},{curve},{}", decimal(station, 6));
     }
     console.print(text.as_bytes())?;
     Ok(Status::Done)

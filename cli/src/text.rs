@@ -17,6 +17,9 @@ use crate::quantity::Quantity;
 use pokyandi::{Reason, Refusal};
 use std::str;
 
+/// How a distance is written, for messages.
+const DISTANCE: &str = "distance 310.5m";
+
 /// A line read from a text, with what its text says of it.
 #[derive(Debug, PartialEq, Eq)]
 pub struct Text {
@@ -57,18 +60,16 @@ impl Text {
         let (speed, speed_place) = items.take_value(Field::Speed, "speed 70")?;
         let (crossfall, crossfall_place) = items.take_value(Field::Crossfall, "crossfall 8")?;
         let (start, start_place) = items.take_value(Field::Start, "start 12+340.5km")?;
-        let (distance, distance_place) = items.take_distance()?;
-        let mut numbers = vec![0, speed.value, crossfall.value, start.value, distance];
-        let mut warnings = Vec::from_iter(doubt(Field::Start, start, start_place.line));
+        let (distance, distance_place) = items.take_value(Field::Distance, DISTANCE)?;
+        let mut numbers = vec![0, speed, crossfall, start, distance];
         let (mut distances, mut curves) = (vec![distance_place], Vec::new());
         while items.rest.len() > 0 {
-            let (curve, deflection, place) = items.take_curve()?;
-            warnings.extend(doubt(Field::Deflection, deflection, place.line));
-            curves.push(place);
-            let (distance, place) = items.take_distance()?;
-            distances.push(place);
+            let (curve, place) = items.take_curve()?;
             numbers.extend(curve);
+            curves.push(place);
+            let (distance, place) = items.take_value(Field::Distance, DISTANCE)?;
             numbers.push(distance);
+            distances.push(place);
         }
         numbers[pokyandi::line::CURVES] = curves.len() as u64;
         let places = Places {
@@ -81,7 +82,7 @@ impl Text {
         Ok(Text {
             line: Line { numbers },
             places,
-            warnings,
+            warnings: items.doubts,
         })
     }
 
@@ -111,14 +112,15 @@ impl Text {
 
 /// A warning where a value without a unit is so small that it was probably meant
 /// in metres or degrees.
-fn doubt(field: Field, quantity: Quantity, line: usize) -> Option<Remark> {
-    const SMALL_START: u64 = 100_000;
-    const SMALL_DEFLECTION: u64 = 100;
+fn doubt(field: Field, Quantity { value, has_unit }: Quantity, line: usize) -> Option<Remark> {
     let (small, unit, letter) = match field {
-        Field::Deflection => (SMALL_DEFLECTION, "degrees", "d"),
-        _ => (SMALL_START, "metres", "m"),
+        Field::Start => (100_000, "metres", "m"),
+        Field::Distance => (10_000, "metres", "m"),
+        Field::Spiral => (1_000, "metres", "m"),
+        Field::Deflection => (100, "degrees", "d"),
+        // What is too small is refused.
+        Field::Speed | Field::Crossfall | Field::Radius => return None,
     };
-    let Quantity { value, has_unit } = quantity;
     let is_doubtful = !has_unit && (1..small).contains(&value);
     let (name, written) = (field.name(), field.written(value));
     let words = format!("warning: {name} {value} is {written}; for {unit} write {value}{letter}");
@@ -136,6 +138,8 @@ struct Items<'a> {
     rest: std::vec::IntoIter<Item<'a>>,
     /// The line of the last item.
     end: usize,
+    /// Values that are probably in the wrong unit.
+    doubts: Vec<Remark>,
 }
 
 impl<'a> Items<'a> {
@@ -146,9 +150,9 @@ impl<'a> Items<'a> {
         let text = text.strip_prefix(b"\xEF\xBB\xBF").unwrap_or(text);
         let mut items = Vec::new();
         for (i, line) in text.split(|byte| *byte == b'\n').enumerate() {
-            let words = words(line).ok_or(Remark {
+            let words = words(line).map_err(|fault| Remark {
                 line: i + 1,
-                words: NOT_UTF8.into(),
+                words: fault.into(),
             })?;
             if !words.is_empty() {
                 items.push(Item { line: i + 1, words });
@@ -158,6 +162,7 @@ impl<'a> Items<'a> {
         Ok(Items {
             rest: items.into_iter(),
             end,
+            doubts: Vec::new(),
         })
     }
 
@@ -195,28 +200,29 @@ impl<'a> Items<'a> {
     }
 
     /// Takes an item of one value.
-    fn take_value(&mut self, field: Field, example: &str) -> Result<(Quantity, Place), Remark> {
+    fn take_value(&mut self, field: Field, example: &str) -> Result<(u64, Place), Remark> {
         let item = self.take(example)?;
-        Ok((item.value(1, field)?, item.place()))
+        Ok((self.value(&item, 1, field)?, item.place()))
     }
 
-    fn take_distance(&mut self) -> Result<(u64, Place), Remark> {
-        let (distance, place) = self.take_value(Field::Distance, "distance 310.5m")?;
-        Ok((distance.value, place))
-    }
-
-    /// Takes a curve: its numbers, and the deflection as it is written.
-    fn take_curve(&mut self) -> Result<([u64; 4], Quantity, Place), Remark> {
+    /// Takes a curve: its numbers.
+    fn take_curve(&mut self) -> Result<([u64; 4], Place), Remark> {
         let item = self.take("curve right 49d22m44s 350m 40m")?;
         let side = item.side()?;
-        let deflection = item.value(2, Field::Deflection)?;
-        let radius = item.value(3, Field::Radius)?.value;
-        let spiral = item.value(4, Field::Spiral)?.value;
-        Ok((
-            [side, deflection.value, radius, spiral],
-            deflection,
-            item.place(),
-        ))
+        let deflection = self.value(&item, 2, Field::Deflection)?;
+        let radius = self.value(&item, 3, Field::Radius)?;
+        let spiral = self.value(&item, 4, Field::Spiral)?;
+        Ok(([side, deflection, radius, spiral], item.place()))
+    }
+
+    /// The value of a field, at this word of an item; a doubt about it is kept.
+    fn value(&mut self, item: &Item, word: usize, field: Field) -> Result<u64, Remark> {
+        let quantity = field.read(item.words[word]).map_err(|words| Remark {
+            line: item.line,
+            words: escaped(&words),
+        })?;
+        self.doubts.extend(doubt(field, quantity, item.line));
+        Ok(quantity.value)
     }
 }
 
@@ -226,15 +232,6 @@ impl Item<'_> {
             line: self.line,
             written: self.words.join(" "),
         }
-    }
-
-    /// The value of a field, at this word.
-    fn value(&self, word: usize, field: Field) -> Result<Quantity, Remark> {
-        let value = field.read(self.words[word]);
-        value.map_err(|words| Remark {
-            line: self.line,
-            words: escaped(&words),
-        })
     }
 
     fn side(&self) -> Result<u64, Remark> {
@@ -250,13 +247,19 @@ impl Item<'_> {
     }
 }
 
+const NOT_TEXT: &str = "this is no text; if it is a sheet, pokyandi show prints its text";
 const NOT_UTF8: &str =
     "a letter is not UTF-8: save the text as UTF-8, or write angles as 49d22m44s";
 
-/// The words of a line before its comment; none where they are not UTF-8.
-fn words(line: &[u8]) -> Option<Vec<&str>> {
+/// The words of a line before its comment.
+fn words(line: &[u8]) -> Result<Vec<&str>, &'static str> {
     let before = line.split(|byte| *byte == b'#').next().unwrap_or_default();
-    Some(str::from_utf8(before).ok()?.split_whitespace().collect())
+    let is_no_text = |byte: &u8| byte.is_ascii_control() && !byte.is_ascii_whitespace();
+    if before.iter().any(is_no_text) {
+        return Err(NOT_TEXT);
+    }
+    let before = str::from_utf8(before).map_err(|_| NOT_UTF8)?;
+    Ok(before.split_whitespace().collect())
 }
 
 /// A word of the text for a message: in part where it is long.

@@ -6,11 +6,10 @@
 //!
 //! The paper is in [`elements`], [`mod@line`], [`refusal`], [`road_tables`],
 //! [`sheet`] (its fields of bits in [`bits`]), [`stations`], [`lent`] and [`report`], its
-//! sums in fractions are in [`exact`]; a line as numbers is in [`line_numbers`], the
-//! text forms of sheets are in [`hexadecimal`] and [`sheet_text`]; the samples are
-//! in [`samples`]. How far rule and fractions lie apart is in [`accuracy`], looked
-//! for by [`search`] and printed by [`accuracy_table`]. The station program is run
-//! by [`runner`].
+//! sums in fractions are in [`exact`]; a line as numbers is in [`line_numbers`], a
+//! sheet as text in [`hexadecimal`]; the samples are in [`samples`]. How far rule
+//! and fractions lie apart is in [`accuracy`], looked for by [`search`] and printed
+//! by [`accuracy_table`]. The station program is run by [`runner`].
 
 pub mod accuracy;
 pub mod accuracy_table;
@@ -29,5 +28,4 @@ pub mod runner;
 pub mod samples;
 pub mod search;
 pub mod sheet;
-pub mod sheet_text;
 pub mod stations;

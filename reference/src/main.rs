@@ -7,8 +7,6 @@ use reference::report::report;
 use reference::samples::station_cases::named_sheets;
 use reference::samples::station_sheets::sample_station_sheets;
 use reference::search::search;
-use reference::sheet;
-use reference::sheet_text;
 use std::ffi::OsString;
 use std::fmt::Display;
 use std::fs;
@@ -20,8 +18,6 @@ const USAGE: &str = "\
 usage: reference station-sheets SEED COUNT
        reference reports
        reference sample-sheets FOLDER
-       reference make-sheet
-       reference show-sheet
        reference accuracy SEED CURVES LINES
 
 station-sheets
@@ -34,15 +30,6 @@ reports   reads such lines on standard input and prints for each what the
 sample-sheets
           writes into FOLDER sheets with a name, each as NAME.sheet, with what
           the station program prints for it as NAME.txt.
-make-sheet
-          reads a sheet as plain text on standard input and writes its bytes:
-          speed NUMBER, crossfall NUMBER, start NUMBER, distance NUMBER; then
-          for each curve: curve SIDE DEFLECTION RADIUS SPIRAL, distance NUMBER;
-          each on a line of its own. # begins a comment. The values must fit
-          their fields, but need not be in range.
-show-sheet
-          reads the bytes of a sheet and prints such a text, or REFUSED number
-          place with exit status 1.
 accuracy  works CURVES curves and LINES lines by the working rule and in
           fractions, climbs from some of them to larger differences, and prints
           a table of the largest, rule minus exact, each with the curve where it
@@ -61,8 +48,6 @@ enum Request {
     SampleSheets {
         folder: String,
     },
-    MakeSheet,
-    ShowSheet,
     Accuracy {
         seed: u64,
         curves: usize,
@@ -76,7 +61,7 @@ fn main() -> ExitCode {
         return ExitCode::from(2);
     };
     match answer(request) {
-        Ok(status) => status,
+        Ok(()) => ExitCode::SUCCESS,
         Err(error) => {
             eprintln!("reference: {error}");
             ExitCode::FAILURE
@@ -100,8 +85,6 @@ fn read_arguments(arguments: impl Iterator<Item = OsString>) -> Option<Request> 
         ["sample-sheets", folder] => Some(Request::SampleSheets {
             folder: folder.to_string(),
         }),
-        ["make-sheet"] => Some(Request::MakeSheet),
-        ["show-sheet"] => Some(Request::ShowSheet),
         ["accuracy", seed, curves, lines] => Some(Request::Accuracy {
             seed: seed.parse().ok()?,
             curves: curves.parse().ok()?,
@@ -111,16 +94,14 @@ fn read_arguments(arguments: impl Iterator<Item = OsString>) -> Option<Request> 
     }
 }
 
-/// Does what is asked for. Gives the exit status.
-fn answer(request: Request) -> io::Result<ExitCode> {
+/// Does what is asked for.
+fn answer(request: Request) -> io::Result<()> {
     match request {
         Request::StationSheets { seed, count } => {
             print(digits_of_each(sample_station_sheets(seed, count)))
         }
         Request::Reports => write_out(lines(&standard_input()?).map(report_text)),
         Request::SampleSheets { folder } => write_samples(Path::new(&folder)),
-        Request::MakeSheet => make_sheet(),
-        Request::ShowSheet => show_sheet(),
         Request::Accuracy {
             seed,
             curves,
@@ -136,18 +117,17 @@ fn standard_input() -> io::Result<Vec<u8>> {
 }
 
 /// Prints each item and a newline.
-fn print(items: impl Iterator<Item = impl Display>) -> io::Result<ExitCode> {
+fn print(items: impl Iterator<Item = impl Display>) -> io::Result<()> {
     write_out(items.map(|item| format!("{item}\n")))
 }
 
 /// Writes each text, or each group of bytes, as it stands.
-fn write_out(texts: impl Iterator<Item = impl AsRef<[u8]>>) -> io::Result<ExitCode> {
+fn write_out(texts: impl Iterator<Item = impl AsRef<[u8]>>) -> io::Result<()> {
     let mut out = BufWriter::new(io::stdout().lock());
     for text in texts {
         out.write_all(text.as_ref())?;
     }
-    out.flush()?;
-    Ok(ExitCode::SUCCESS)
+    out.flush()
 }
 
 fn digits_of_each(sheets: impl Iterator<Item = Vec<u8>>) -> impl Iterator<Item = String> {
@@ -155,37 +135,14 @@ fn digits_of_each(sheets: impl Iterator<Item = Vec<u8>>) -> impl Iterator<Item =
 }
 
 /// Writes the sheets with a name, and their reports, into the folder.
-fn write_samples(folder: &Path) -> io::Result<ExitCode> {
+fn write_samples(folder: &Path) -> io::Result<()> {
     fs::create_dir_all(folder)?;
     for named in named_sheets() {
         let path = folder.join(named.name);
         fs::write(path.with_extension("sheet"), &named.sheet)?;
         fs::write(path.with_extension("txt"), report(&named.sheet))?;
     }
-    Ok(ExitCode::SUCCESS)
-}
-
-/// Makes the sheet of the text on standard input.
-fn make_sheet() -> io::Result<ExitCode> {
-    let text = standard_input()?;
-    match sheet_text::make(&String::from_utf8_lossy(&text)) {
-        Ok(sheet) => write_out([sheet].into_iter()),
-        Err(problem) => {
-            eprintln!("sheet: {problem}");
-            Ok(ExitCode::FAILURE)
-        }
-    }
-}
-
-/// Shows the sheet on standard input.
-fn show_sheet() -> io::Result<ExitCode> {
-    match sheet::read(&standard_input()?) {
-        Ok(line) => write_out([sheet_text::show(&line)].into_iter()),
-        Err(refusal) => {
-            print([refusal].into_iter())?;
-            Ok(ExitCode::FAILURE)
-        }
-    }
+    Ok(())
 }
 
 /// The station program's report for the sheet on a line of text.

@@ -1,11 +1,11 @@
 //! Reading and writing that fails: exit status 2, and words.
 
-use crate::run::{run, run_in_shell, Folder};
+use crate::run::{run, run_in_shell, samples, Folder};
 use std::fs;
 
 /// A line of the shell that fails, and what its words have.
 fn check_failure(line: &str, words: &str) {
-    let run = run_in_shell(line);
+    let run = run_in_shell(&samples(), line);
     assert_eq!(run.status, Some(2), "{line}: {}", run.words);
     assert!(run.words.contains(words), "{line}: {}", run.words);
 }
@@ -89,7 +89,7 @@ fn folders_and_missing_files() {
 #[test]
 fn a_sheet_does_not_replace_its_text() {
     let folder = Folder::new();
-    let text = fs::read(crate::run::samples().join("line.txt")).unwrap();
+    let text = fs::read(samples().join("line.txt")).unwrap();
     let path = folder.file("line.txt", &text);
     let run = run(&["make".as_ref(), path.as_os_str(), path.as_os_str()]);
     assert_eq!(run.status, Some(2));

@@ -1,6 +1,6 @@
 //! Faulty texts: each has its own words, status 1, and the old sheet is kept.
 
-use crate::run::{run, Folder, Run};
+use crate::run::{run, samples, Folder, Run};
 use std::collections::BTreeSet;
 use std::fs;
 
@@ -71,15 +71,32 @@ fn faulty_texts_as_a_whole() {
         .map(|byte| if *byte == b'd' { 0xB0 } else { *byte });
     let latin_1: Vec<u8> = latin_1.collect();
     let curve = "curve right 49d22m44s 350m 40m\ndistance 400m\n";
-    let cases: [(Vec<u8>, &str); 6] = [
-        (vec![], "1: the text ends where speed is wanted, as in: speed 70"),
-        (b"# nothing\n\n".to_vec(), "1: the text ends where speed is wanted, as in: speed 70"),
+    let sheet = fs::read(samples().join("stations/case-01.sheet")).unwrap();
+    let cases: [(Vec<u8>, &str); 7] = [
+        (
+            vec![],
+            "1: the text ends where speed is wanted, as in: speed 70",
+        ),
+        (
+            b"# nothing\n\n".to_vec(),
+            "1: the text ends where speed is wanted, as in: speed 70",
+        ),
         (utf_16, "1: the text is UTF-16: save it as UTF-8"),
-        (latin_1, "1: a letter is not UTF-8: save the text as UTF-8, or write angles as 49d22m44s"),
-        (b"\x10\x11\x1b[2J 5".to_vec(), "1: \"\\u{10}\\u{11}\\u{1b}[2J\" stands where speed is wanted, as in: speed 70"),
+        (
+            latin_1,
+            "1: a letter is not UTF-8: save the text as UTF-8, or write angles as 49d22m44s",
+        ),
+        (
+            sheet,
+            "1: this is no text; if it is a sheet, pokyandi show prints its text",
+        ),
+        (
+            "speed 70\ncrossfall 8\u{85}\u{9b}2J\n".into(),
+            "2: crossfall has 2 values, not 1; a value has no spaces, as in: crossfall 8",
+        ),
         (
             (TEXT.to_string() + &curve.repeat(64)).into_bytes(),
-            "133: curve right 49d22m44s 350m 40m: refused 3: the line has 65 curves; it may have 64",
+            "133: curve right 49d22m44s 350m 40m: refused 3: the line has 65 curves; it may have 64 at most",
         ),
     ];
     for (text, words) in cases {

@@ -1,6 +1,6 @@
 //! The help: every example in it prints what it says.
 
-use crate::run::{run, run_in_shell};
+use crate::run::{run, run_in_shell, top};
 
 const SUBCOMMANDS: [&str; 5] = ["stations", "elements", "check", "make", "show"];
 
@@ -33,7 +33,7 @@ fn the_examples_print_what_the_help_says() {
         let examples = examples(&help.text());
         assert!(!examples.is_empty(), "{}", help.text());
         for (command, printed) in examples {
-            let run = run_in_shell(&format!("{command} 2>&1"));
+            let run = run_in_shell(&top(), &format!("{command} 2>&1"));
             assert_eq!(run.text(), printed, "{command}");
         }
     }

@@ -93,6 +93,16 @@ fn values_that_are_probably_in_the_wrong_unit_get_a_warning() {
         ("start 0", "start 12340", start),
         ("start 0", "start 99999", "start 99999 is"),
         ("177764", "49", deflection),
+        (
+            "distance 400000",
+            "distance 400",
+            "line.txt:6: warning: distance 400 is 0.400 m; for metres write 400m\n",
+        ),
+        (
+            "40000\n",
+            "40\n",
+            "line.txt:5: warning: spiral 40 is 0.040 m; for metres write 40m\n",
+        ),
     ];
     for (from, to, warning) in cases {
         let folder = Folder::new();

@@ -59,23 +59,28 @@ pub fn run_with_input<A: AsRef<OsStr>>(arguments: &[A], input: &[u8]) -> Run {
     child.wait_with_output().expect("the command ends").into()
 }
 
-/// Runs a line of the shell, in which `pokyandi` is the command.
-pub fn run_in_shell(line: &str) -> Run {
+/// Runs a line of the shell in a folder; `pokyandi` is the command.
+pub fn run_in_shell(folder: &Path, line: &str) -> Run {
     let program = Path::new(env!("CARGO_BIN_EXE_pokyandi"));
     let paths = std::env::var("PATH").unwrap_or_default();
     let path = format!("{}:{paths}", program.parent().unwrap().display());
     let output = Command::new("bash")
         .args(["-c", line])
-        .current_dir(samples())
+        .current_dir(folder)
         .env("PATH", path)
         .stdin(Stdio::null())
         .output();
     output.expect("the shell starts").into()
 }
 
+/// The repository's top.
+pub fn top() -> PathBuf {
+    Path::new(env!("CARGO_MANIFEST_DIR")).join("..")
+}
+
 /// The folder of the samples.
 pub fn samples() -> PathBuf {
-    Path::new(env!("CARGO_MANIFEST_DIR")).join("../samples")
+    top().join("samples")
 }
 
 /// The files of `samples/stations` with this ending, in order.

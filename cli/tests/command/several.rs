@@ -66,7 +66,7 @@ fn refused_sheets_in_every_form() {
     let csv = run(&["stations", "--as=csv", "stations/case-03.sheet"]);
     assert!(csv
         .text()
-        .ends_with("\nstations/case-03.sheet,REFUSED,15,0\n"));
+        .ends_with("\nstations/case-03.sheet,REFUSED 15 0,,\n"));
     let elements = run(&["elements", "stations/case-03.sheet"]);
     assert_eq!(
         (elements.text().as_str(), elements.status),
@@ -134,22 +134,21 @@ fn ten_thousand_sheets_of_which_one_is_faulty() {
     assert_eq!(run.words.lines().count(), 1);
     let text = run.text();
     assert_eq!(text.lines().count(), 1 + 5 * (COUNT - 1) + 1);
-    assert_eq!(text.matches(",REFUSED,15,0\n").count(), 1);
-    assert!(text.contains(&format!("{FAULTY}.sheet,REFUSED,15,0\n")));
+    assert_eq!(text.matches(",REFUSED 15 0,,\n").count(), 1);
+    assert!(text.contains(&format!("{FAULTY}.sheet,REFUSED 15 0,,\n")));
 }
 
 #[test]
 fn progress_on_a_terminal_alone() {
-    // In the folder of the samples: 3,000 names of a long sheet take long enough to be seen on most machines, but not on all.
+    // So many sheets take longer than the first progress line waits for.
     let run =
         "yes stations/mountain-road.sheet | head -n 60000 | pokyandi stations --list - >/dev/null";
-    assert_eq!(run_in_shell(&format!("{run} 2>&1")).text(), "");
-    let on_terminal = run_in_shell(&format!("script -qec '{run}' /dev/null"));
+    let in_pipe = run_in_shell(&samples(), &format!("{run} 2>&1"));
+    assert_eq!((in_pipe.text().as_str(), in_pipe.status), ("", Some(0)));
+    let on_terminal = run_in_shell(&samples(), &format!("script -qec '{run}' /dev/null"));
+    // Without the program `script` there is no terminal to be had.
     if on_terminal.status == Some(0) {
-        assert!(
-            on_terminal.text().contains(" of 60000 sheets"),
-            "{}",
-            on_terminal.text()
-        );
+        let shown = on_terminal.text();
+        assert!(shown.contains(" of 60000 sheets"), "{shown}");
     }
 }
