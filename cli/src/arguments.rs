@@ -1,9 +1,11 @@
 //! The command line.
 
+use crate::commands::sheets::Sheets;
+use crate::commands::stations::Form;
 use crate::help;
-use crate::sheets::Sheets;
-use crate::stations::Form;
+use std::borrow::Cow;
 use std::ffi::{OsStr, OsString};
+use std::os::unix::ffi::OsStrExt;
 
 /// What the arguments ask for.
 #[derive(Debug, PartialEq, Eq)]
@@ -52,27 +54,22 @@ impl Words {
         let mut read = Words::default();
         let mut rest = words.iter();
         while let Some(word) = rest.next() {
-            let text = word.to_string_lossy();
-            let (option, joined) = match text.split_once('=') {
-                Some((option, value)) if option.starts_with("--") => {
-                    (option, Some(OsString::from(value)))
-                }
-                _ => (&*text, None),
-            };
+            let (option, joined) = parts_of(word);
             let mut value = || {
-                let next = joined.clone().or_else(|| rest.next().cloned());
+                let next = joined.map(OsStr::to_os_string);
+                let next = next.or_else(|| rest.next().cloned());
                 next.ok_or(format!(
                     "{option} lacks its value; see pokyandi {subcommand} --help"
                 ))
             };
-            match (option, subcommand) {
+            match (&*option, subcommand) {
                 ("--help" | "-h", _) => read.wants_help = true,
                 ("--as", "stations") => read.form = Some(form(&value()?)?),
                 ("--list", "stations" | "elements" | "check") => read.list = Some(value()?),
                 ("--", _) => read.names.extend(rest.by_ref().cloned()),
-                _ if text.starts_with('-') && text != "-" => {
+                _ if option.starts_with('-') && option != "-" => {
                     return Err(format!(
-                        "{text} is no option of {subcommand}; see pokyandi {subcommand} --help"
+                        "{option} is no option of {subcommand}; see pokyandi {subcommand} --help"
                     ));
                 }
                 _ => read.names.push(word.clone()),
@@ -130,6 +127,18 @@ impl Words {
     ) -> Result<[OsString; N], String> {
         let told = |_| format!("{subcommand} takes {wanted}; see pokyandi {subcommand} --help");
         self.names.try_into().map_err(told)
+    }
+}
+
+/// An option, and the value that is joined to it by `=`.
+fn parts_of(word: &OsStr) -> (Cow<'_, str>, Option<&OsStr>) {
+    let bytes = word.as_bytes();
+    match bytes.iter().position(|byte| *byte == b'=') {
+        Some(end) if bytes.starts_with(b"--") => (
+            String::from_utf8_lossy(&bytes[..end]),
+            Some(OsStr::from_bytes(&bytes[end + 1..])),
+        ),
+        _ => (word.to_string_lossy(), None),
     }
 }
 

@@ -1,8 +1,8 @@
 //! A refusal in words: the value that was found, the limit that it misses, and the
 //! formula behind it.
 
+use crate::bits::fields_of;
 use crate::field::Field;
-use crate::fields::fields_of;
 use crate::limits;
 use crate::line::{Curve, Line};
 use crate::quantity::{degrees, metres_of_mm, metres_of_um};
@@ -10,7 +10,8 @@ use pokyandi::{element, Reason, Refusal, SHEET_BYTES};
 
 /// Why a sheet is refused, in one sentence.
 pub fn of_sheet(sheet: &[u8], refusal: Refusal) -> String {
-    let (edition, line) = fields_of(sheet);
+    let (edition, fields) = fields_of(sheet);
+    let line = Line::of_sheet(sheet).unwrap_or(fields);
     match refusal.reason {
         Reason::Truncated | Reason::Trailing => headed(refusal, bytes(sheet, &line)),
         Reason::Edition => headed(refusal, other_edition(sheet, edition)),

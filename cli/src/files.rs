@@ -76,27 +76,45 @@ pub fn replace(name: &OsStr, bytes: &[u8]) -> io::Result<()> {
     match fs::metadata(&path) {
         Ok(old) if old.is_dir() => Err(io::ErrorKind::IsADirectory.into()),
         Ok(old) if !old.is_file() => OpenOptions::new().write(true).open(&path)?.write_all(bytes),
+        Ok(old) if old.permissions().readonly() => Err(io::ErrorKind::PermissionDenied.into()),
         old => replace_file(&path, old.ok().map(|old| old.permissions()), bytes),
     }
 }
 
 fn replace_file(path: &Path, permissions: Option<fs::Permissions>, bytes: &[u8]) -> io::Result<()> {
-    let Some(name) = path.file_name() else {
-        return Err(io::ErrorKind::InvalidInput.into());
-    };
-    let mut beside_name = OsStr::new(".").to_os_string();
-    beside_name.push(name);
-    beside_name.push(format!(".{}", std::process::id()));
-    let beside = path.with_file_name(beside_name);
-    let made = write_new(&beside, permissions, bytes).and_then(|()| fs::rename(&beside, path));
-    if made.is_err() {
+    let (beside, file) = new_beside(path)?;
+    let written = write_checked(file, &beside, permissions, bytes);
+    let replaced = written.and_then(|()| fs::rename(&beside, path));
+    if replaced.is_err() {
         let _ = fs::remove_file(&beside);
     }
-    made
+    replaced
 }
 
-fn write_new(path: &Path, permissions: Option<fs::Permissions>, bytes: &[u8]) -> io::Result<()> {
-    let mut file = OpenOptions::new().write(true).create_new(true).open(path)?;
+/// A new file in the folder of another, and its path.
+fn new_beside(path: &Path) -> io::Result<(PathBuf, File)> {
+    let mut count = 0;
+    loop {
+        let name = format!(".pokyandi-{}-{count}", std::process::id());
+        let beside = path.with_file_name(name);
+        match OpenOptions::new()
+            .write(true)
+            .create_new(true)
+            .open(&beside)
+        {
+            Err(error) if error.kind() == io::ErrorKind::AlreadyExists => count += 1,
+            opened => return opened.map(|file| (beside, file)),
+        }
+    }
+}
+
+/// Writes a file and reads it back.
+fn write_checked(
+    mut file: File,
+    path: &Path,
+    permissions: Option<fs::Permissions>,
+    bytes: &[u8],
+) -> io::Result<()> {
     if let Some(permissions) = permissions {
         file.set_permissions(permissions)?;
     }

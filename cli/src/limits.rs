@@ -179,7 +179,7 @@ fn has_arc(curve: Curve) -> bool {
 /// The least distance i of a line that leaves its straight long enough, mm.
 pub fn least_distance(line: &Line, i: usize) -> Option<u64> {
     let index = pokyandi::line::distance(i);
-    let (_, high) = range(index.min(pokyandi::line::distance(1)));
+    let (_, high) = range(pokyandi::line::distance(0));
     least(line.distance(i)..=high, |distance| {
         let refusal = line.with(index, distance).check().err();
         refusal

@@ -3,25 +3,21 @@
 //! answered.
 
 mod arguments;
-mod check;
+mod bits;
+mod commands;
 mod console;
 mod decimal;
-mod elements;
 mod explain;
 mod field;
-mod fields;
 mod files;
 mod help;
 mod limits;
 mod line;
-mod make;
 mod quantity;
-mod sheets;
-mod show;
-mod stations;
 mod text;
 
 use arguments::Request;
+use commands::{check, elements, make, show, stations};
 use console::{Console, Status};
 use std::env;
 use std::io;

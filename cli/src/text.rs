@@ -102,7 +102,7 @@ impl Text {
             Reason::Crossfall => crossfall,
             Reason::Start => start,
             Reason::Distance | Reason::ShortStraight => &distances[place],
-            _ => &curves[place - 1],
+            _ => curves.get(place.wrapping_sub(1)).unwrap_or(speed),
         };
         let words = explain::of_line(&self.line, refusal);
         let words = format!("{}: {words}", escaped(written));

@@ -1,10 +1,10 @@
 //! `pokyandi check`: a line for each sheet, fine or why it is refused.
 
+use crate::commands::sheets::{each, Sheets};
 use crate::console::{Console, Status};
 use crate::explain;
 use crate::files::Name;
 use crate::quantity::kilometres;
-use crate::sheets::{each, Sheets};
 use pokyandi::ROW_NUMBERS;
 use std::io;
 

@@ -1,8 +1,8 @@
 //! `pokyandi elements`: the elements of every curve of sheets, and the straights.
 
+use crate::commands::sheets::{each, Sheet, Sheets};
 use crate::console::{Console, Status};
 use crate::line::Line;
-use crate::sheets::{each, Sheet, Sheets};
 use pokyandi::{Refusal, ROW_NUMBERS};
 use std::fmt::Write;
 use std::io;

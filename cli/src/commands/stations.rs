@@ -1,9 +1,9 @@
 //! `pokyandi stations`: the stations of sheets.
 
+use crate::commands::sheets::{each, Sheet, Sheets};
 use crate::console::{Console, Status};
 use crate::decimal::decimal;
 use crate::quantity::{estacas, kilometres};
-use crate::sheets::{each, Sheet, Sheets};
 use pokyandi::{Refusal, ROW_NUMBERS, TEXT_BYTES};
 use std::fmt::Write;
 use std::io;

@@ -1,10 +1,10 @@
 //! `pokyandi show`: the text of a sheet, which `make` takes back.
 
+use crate::commands::sheets::{each, Sheets};
 use crate::console::{Console, Status};
 use crate::decimal::decimal;
 use crate::line::{Curve, Line};
 use crate::quantity::{degrees_in_letters, kilometres};
-use crate::sheets::{each, Sheets};
 use std::ffi::OsStr;
 use std::io;
 

@@ -1,0 +1,8 @@
+//! The subcommands.
+
+pub mod check;
+pub mod elements;
+pub mod make;
+pub mod sheets;
+pub mod show;
+pub mod stations;
