@@ -132,31 +132,29 @@ fn friction(line: &Line, least_radius: u64) -> u64 {
 }
 
 fn least_spiral(line: &Line, Curve { radius, spiral, .. }: Curve) -> String {
-    let least = limits::least_spiral(line, radius);
-    let is_tabled = least.is_some() && least == limits::tabled_spiral(line);
-    let limit = match least {
-        Some(least) => format!("the least is {}", metres_of_mm(least)),
-        None => "none is long enough".into(),
-    };
+    let found = format!("the spiral is {}", metres_of_mm(spiral));
     let speed = line.speed();
-    let formula = match is_tabled {
-        true => format!("by the table at V = {speed} km/h"),
-        false => format!(
-            "by 0.036 V³ / R at V = {speed} km/h and R = {}",
-            metres_of_mm(radius)
-        ),
-    };
-    let way_out = match (least, limits::least_radius_with_spiral(line)) {
-        (None, Some(radius)) => format!(
-            "; it takes a radius of {} at least, or no spirals",
-            metres_of_mm(radius)
-        ),
-        _ => String::new(),
-    };
-    format!(
-        "the spiral is {}; {limit}, {formula}{way_out}",
-        metres_of_mm(spiral)
-    )
+    let radius_words = metres_of_mm(radius);
+    let formula = format!("by 0.036 V³ / R at V = {speed} km/h and R = {radius_words}");
+    match limits::least_spiral(line, radius) {
+        None => format!("{found}; none is long enough, {formula}{}", wider(line)),
+        Some(least) => {
+            let by = match limits::tabled_spiral(line) == Some(least) {
+                true => format!("by the table at V = {speed} km/h"),
+                false => formula,
+            };
+            format!("{found}; the least is {}, {by}", metres_of_mm(least))
+        }
+    }
+}
+
+/// What helps where no spiral that may stand at a radius is long enough.
+fn wider(line: &Line) -> String {
+    let radius = limits::least_radius_with_spiral(line);
+    radius.map_or(String::new(), |radius| {
+        let radius = metres_of_mm(radius);
+        format!("; it takes a radius of {radius} at least, or no spirals")
+    })
 }
 
 fn short_arc(line: &Line, curve: Curve) -> String {
