@@ -25,8 +25,11 @@ pub fn read(words: &[OsString]) -> Result<Request, String> {
         return Err(format!("a subcommand is missing\n{}", help::USAGE));
     };
     let first = first.to_string_lossy();
+    let asked = rest
+        .first()
+        .and_then(|word| help::of(&word.to_string_lossy()));
     match &*first {
-        "--help" | "-h" | "help" => return Ok(Request::Help(help::all())),
+        "--help" | "-h" | "help" => return Ok(Request::Help(asked.unwrap_or(help::all()))),
         "--version" | "-V" => return Ok(Request::Version),
         _ => {}
     }
@@ -51,6 +54,7 @@ struct Words {
 
 impl Words {
     fn read(subcommand: &str, words: &[OsString]) -> Result<Words, String> {
+        let see = format!("see pokyandi {subcommand} --help");
         let mut read = Words::default();
         let mut rest = words.iter();
         while let Some(word) = rest.next() {
@@ -58,19 +62,20 @@ impl Words {
             let mut value = || {
                 let next = joined.map(OsStr::to_os_string);
                 let next = next.or_else(|| rest.next().cloned());
-                next.ok_or(format!(
-                    "{option} lacks its value; see pokyandi {subcommand} --help"
-                ))
+                next.ok_or(format!("{option} lacks its value; {see}"))
             };
             match (&*option, subcommand) {
-                ("--help" | "-h", _) => read.wants_help = true,
                 ("--as", "stations") => read.form = Some(form(&value()?)?),
-                ("--list", "stations" | "elements" | "check") => read.list = Some(value()?),
-                ("--", _) => read.names.extend(rest.by_ref().cloned()),
+                ("--list", "stations" | "elements" | "check") if read.list.is_none() => {
+                    read.list = Some(value()?);
+                }
+                ("--list", "stations" | "elements" | "check") => {
+                    return Err(format!("--list is given twice; {see}"));
+                }
+                ("--help" | "-h", _) if joined.is_none() => read.wants_help = true,
+                ("--", _) if joined.is_none() => read.names.extend(rest.by_ref().cloned()),
                 _ if option.starts_with('-') && option != "-" => {
-                    return Err(format!(
-                        "{option} is no option of {subcommand}; see pokyandi {subcommand} --help"
-                    ));
+                    return Err(format!("{option} is no option of {subcommand}; {see}"));
                 }
                 _ => read.names.push(word.clone()),
             }

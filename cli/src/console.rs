@@ -28,35 +28,40 @@ const PROGRESS_EVERY: Duration = Duration::from_millis(200);
 
 pub struct Console {
     out: BufWriter<Stdout>,
+    /// Why results could not be written, where that is not told yet.
+    failure: Option<io::Error>,
     /// Whether progress is shown: standard error is a terminal, and results go
     /// elsewhere.
     shows_progress: bool,
-    /// When the progress line was last drawn.
-    drawn: Option<Instant>,
-    begin: Instant,
+    /// When the progress line was last drawn, and whether it is there.
+    drawn: Instant,
+    is_drawn: bool,
 }
 
 impl Console {
     pub fn new() -> Console {
         Console {
             out: BufWriter::with_capacity(1 << 16, io::stdout()),
+            failure: None,
             shows_progress: io::stderr().is_terminal() && !io::stdout().is_terminal(),
-            drawn: None,
-            begin: Instant::now(),
+            drawn: Instant::now(),
+            is_drawn: false,
         }
     }
 
     /// Puts out results.
     pub fn print(&mut self, text: &[u8]) -> io::Result<()> {
-        if is_closed(&OUTPUT_CLOSED) {
-            return Err(closed());
+        if OUTPUT_UNUSABLE.load(Ordering::Relaxed) {
+            return Err(bad_descriptor());
         }
+        self.failure.take().map_or(Ok(()), Err)?;
         self.out.write_all(text)
     }
 
     /// Puts out what is left of the results.
     pub fn finish(&mut self) -> io::Result<()> {
         self.clear_progress();
+        self.failure.take().map_or(Ok(()), Err)?;
         self.out.flush()
     }
 
@@ -64,7 +69,9 @@ impl Console {
     /// written can be told nobody.
     pub fn say(&mut self, words: &str) {
         self.clear_progress();
-        let _ = self.out.flush();
+        if let Err(error) = self.out.flush() {
+            self.failure.get_or_insert(error);
+        }
         let _ = writeln!(io::stderr(), "{words}");
     }
 
@@ -77,26 +84,28 @@ impl Console {
 
     /// Shows how many sheets of how many are done.
     pub fn progress(&mut self, done: usize, all: usize) {
-        let due = self.drawn.unwrap_or(self.begin).elapsed() >= PROGRESS_EVERY;
-        if self.shows_progress && due {
+        if self.shows_progress && self.drawn.elapsed() >= PROGRESS_EVERY {
             let _ = write!(io::stderr(), "\r{done} of {all} sheets");
-            self.drawn = Some(Instant::now());
+            self.drawn = Instant::now();
+            self.is_drawn = true;
         }
     }
 
     fn clear_progress(&mut self) {
-        if self.drawn.take().is_some() {
+        if self.is_drawn {
             let _ = write!(io::stderr(), "\r\x1b[K");
+            self.is_drawn = false;
         }
     }
 }
 
 // Where standard input or output is closed, Rust's own start puts /dev/null in
-// its place: results would be lost without a word. So the descriptors are looked
-// at before that.
+// its place, and it takes a descriptor that is open the wrong way for an empty
+// one: results would be lost without a word. So the descriptors are looked at
+// before that start.
 
-static INPUT_CLOSED: AtomicBool = AtomicBool::new(false);
-static OUTPUT_CLOSED: AtomicBool = AtomicBool::new(false);
+static INPUT_UNUSABLE: AtomicBool = AtomicBool::new(false);
+static OUTPUT_UNUSABLE: AtomicBool = AtomicBool::new(false);
 
 #[used]
 #[link_section = ".init_array"]
@@ -106,27 +115,31 @@ extern "C" fn look_at_descriptors() {
     extern "C" {
         fn fcntl(descriptor: i32, command: i32, ...) -> i32;
     }
-    const F_GETFD: i32 = 1;
-    for (descriptor, is_closed) in [(0, &INPUT_CLOSED), (1, &OUTPUT_CLOSED)] {
-        // SAFETY: F_GETFD takes no further argument and changes nothing.
-        let flags = unsafe { fcntl(descriptor, F_GETFD) };
-        is_closed.store(flags == -1, Ordering::Relaxed);
+    const F_GETFL: i32 = 3;
+    const O_ACCMODE: i32 = 3;
+    const O_RDONLY: i32 = 0;
+    const O_WRONLY: i32 = 1;
+    let looks = [
+        (0, O_WRONLY, &INPUT_UNUSABLE),
+        (1, O_RDONLY, &OUTPUT_UNUSABLE),
+    ];
+    for (descriptor, wrong_way, is_unusable) in looks {
+        // SAFETY: F_GETFL takes no further argument and changes nothing.
+        let flags = unsafe { fcntl(descriptor, F_GETFL) };
+        let is_wrong = flags == -1 || flags & O_ACCMODE == wrong_way;
+        is_unusable.store(is_wrong, Ordering::Relaxed);
     }
 }
 
-fn is_closed(descriptor: &AtomicBool) -> bool {
-    descriptor.load(Ordering::Relaxed)
-}
-
-fn closed() -> io::Error {
+fn bad_descriptor() -> io::Error {
     const EBADF: i32 = 9;
     io::Error::from_raw_os_error(EBADF)
 }
 
-/// Standard input, which is an error where it is closed.
+/// Standard input, which is an error where it cannot be read.
 pub fn input() -> io::Result<io::Stdin> {
-    match is_closed(&INPUT_CLOSED) {
-        true => Err(closed()),
+    match INPUT_UNUSABLE.load(Ordering::Relaxed) {
+        true => Err(bad_descriptor()),
         false => Ok(io::stdin()),
     }
 }

@@ -9,7 +9,7 @@ pub enum Fault {
     TooLarge,
 }
 
-/// More digits than any range has; 10^15 times 1,000 fits 64 bits.
+/// More digits than any range has.
 const MOST_DIGITS: usize = 15;
 
 /// The number of smallest units in a decimal number of larger ones, each of
@@ -19,8 +19,10 @@ pub fn units_in(word: &str, unit: u64) -> Result<u64, Fault> {
     if !is_digits(whole) || !is_digits(decimals) {
         return Err(Fault::NotANumber);
     }
-    let whole = number(whole.trim_start_matches('0'))?;
-    Ok(whole * unit + units_in_decimals(decimals, unit)?)
+    let whole = number(whole.trim_start_matches('0'))?.checked_mul(unit);
+    let decimals = units_in_decimals(decimals, unit)?;
+    let sum = whole.and_then(|whole| whole.checked_add(decimals));
+    sum.ok_or(Fault::TooLarge)
 }
 
 /// What the digits behind a point are worth.
@@ -96,6 +98,8 @@ mod tests {
         for (word, fault) in cases {
             assert_eq!(units_in(word, 1_000), Err(fault), "{word}");
         }
+        assert_eq!(units_in("18446744073710", 1_000_000), Err(Fault::TooLarge));
+        assert_eq!(units_in("922337203685478", 20_000), Err(Fault::TooLarge));
     }
 
     #[test]

@@ -56,6 +56,7 @@ fn headed(Refusal { reason, place }: Refusal, found: String) -> String {
 /// How many bytes there are, and how many there should be.
 fn bytes(sheet: &[u8], line: &Line) -> String {
     const HEAD_BYTES: usize = 7;
+    let fewest = limits::fewest_bytes();
     let needed = limits::bytes_needed(sheet);
     let size = match sheet.len() {
         size if size > SHEET_BYTES => format!("more than {SHEET_BYTES} bytes"),
@@ -65,7 +66,7 @@ fn bytes(sheet: &[u8], line: &Line) -> String {
         size if size == needed => {
             "a bit behind the last distance is set; the bits that fill the last byte are 0".into()
         }
-        0..HEAD_BYTES => format!("the sheet has {size}; it takes {needed} at least"),
+        0..HEAD_BYTES => format!("the sheet has {size}; the shortest has {fewest}"),
         _ => format!(
             "the sheet has {size}; with {} it takes {needed}",
             curves(line)
@@ -158,17 +159,13 @@ fn wider(line: &Line) -> String {
 }
 
 fn short_arc(line: &Line, curve: Curve) -> String {
-    // The arc of a simple curve, R A, less L.
-    let simple = Curve { spiral: 0, ..curve }.elements();
-    let found = simple.map_or("is under 1 mm".into(), |numbers| {
-        let arc = numbers[element::D] as i64 - 1_000 * curve.spiral as i64;
-        format!("is {}, under 1 mm", metres_of_um(arc))
-    });
+    let arc = limits::simple_arc(curve) as i64 - 1_000 * curve.spiral as i64;
     let least = limits::least_deflection(curve).map_or("none".into(), degrees);
     let [radius, spiral] = [curve.radius, curve.spiral].map(metres_of_mm);
     format!(
-        "the arc {found}, by R A - L at R = {radius}, A = {} in radians and L = {spiral}; \
+        "the arc is {}, under 1 mm, by R A - L at R = {radius}, A = {} in radians and L = {spiral}; \
          it takes a deflection of {least} at least{}",
+        metres_of_um(arc),
         degrees(curve.deflection),
         shorter_spirals(line, curve)
     )
@@ -198,12 +195,9 @@ fn short_straight(line: &Line, i: usize) -> String {
         tangent.map(|um| format!("TT {} of curve {i}", metres_of_um(um as i64)))
     };
     let less: Vec<String> = tangents.iter().filter_map(shown).collect();
-    let least = match limits::least_distance(line, i) {
-        Some(least) => format!("{} at least", metres_of_mm(least)),
-        None => "more than it may be".into(),
-    };
+    let least = limits::least_distance(line, i).map_or("none".into(), metres_of_mm);
     format!(
-        "the straight is {}, under 1 mm, by {} less {}; it takes a distance of {least}",
+        "the straight is {}, under 1 mm, by {} less {}; it takes a distance of {least} at least",
         metres_of_um(straight),
         metres_of_mm(line.distance(i)),
         less.join(" and ")

@@ -6,6 +6,7 @@ use std::ffi::OsStr;
 use std::fmt;
 use std::fs::{self, File, OpenOptions};
 use std::io::{self, IsTerminal, Read, Write};
+use std::os::unix::fs::MetadataExt;
 use std::path::{Path, PathBuf};
 
 /// One byte more than the longest sheet, so that a longer one is seen.
@@ -18,11 +19,23 @@ pub struct Name<'a>(pub &'a OsStr);
 
 impl fmt::Display for Name<'_> {
     fn fmt(&self, f: &mut fmt::Formatter) -> fmt::Result {
-        match is_standard(self.0) {
-            true => write!(f, "standard input"),
-            false => write!(f, "{}", Path::new(self.0).display()),
+        let name = self.0.to_string_lossy();
+        match &*name {
+            "-" => write!(f, "standard input"),
+            "" => write!(f, "\"\""),
+            name => write!(f, "{}", visible(name)),
         }
     }
+}
+
+/// A text with letters that a terminal would obey, or that nobody sees, as codes.
+pub fn visible(text: &str) -> String {
+    let shown = |letter: char| match letter {
+        '\'' | '"' | '\\' => letter.to_string(),
+        // It leaves what is printed, and writes the others as codes.
+        _ => letter.escape_debug().to_string(),
+    };
+    text.chars().map(shown).collect()
 }
 
 /// Whether a name stands for standard input or output.
@@ -63,21 +76,43 @@ fn read(name: &OsStr, most: u64) -> io::Result<Vec<u8>> {
     Ok(bytes)
 }
 
-/// Whether both names are of one file that is there.
-pub fn are_same(one: &OsStr, other: &OsStr) -> bool {
-    let paths = [one, other].map(fs::canonicalize);
-    matches!(paths, [Ok(one), Ok(other)] if one == other)
+/// Whether a text that is read and a sheet that is written are one file.
+pub fn are_same(text: &OsStr, sheet: &OsStr) -> bool {
+    let text = match is_standard(text) {
+        true => OsStr::new("/dev/stdin"),
+        false => text,
+    };
+    let file = |name| fs::metadata(name).ok().filter(|file| file.is_file());
+    match (file(text), file(sheet)) {
+        (Some(text), Some(sheet)) => (text.dev(), text.ino()) == (sheet.dev(), sheet.ino()),
+        _ => false,
+    }
 }
 
 /// Puts the bytes into a file: written beside it, read back, compared and renamed,
 /// so that a failure keeps the old file. A device or pipe is written to itself.
 pub fn replace(name: &OsStr, bytes: &[u8]) -> io::Result<()> {
-    let path = fs::canonicalize(name).unwrap_or(PathBuf::from(name));
-    match fs::metadata(&path) {
+    match fs::metadata(name) {
         Ok(old) if old.is_dir() => Err(io::ErrorKind::IsADirectory.into()),
-        Ok(old) if !old.is_file() => OpenOptions::new().write(true).open(&path)?.write_all(bytes),
+        Ok(old) if !old.is_file() => OpenOptions::new().write(true).open(name)?.write_all(bytes),
         Ok(old) if old.permissions().readonly() => Err(io::ErrorKind::PermissionDenied.into()),
-        old => replace_file(&path, old.ok().map(|old| old.permissions()), bytes),
+        Ok(old) => replace_file(&path_of(name)?, Some(old.permissions()), bytes),
+        Err(_) if fs::symlink_metadata(name).is_err() => replace_file(name.as_ref(), None, bytes),
+        // A link that leads nowhere.
+        Err(error) => Err(error),
+    }
+}
+
+/// The path of a file that is there, its links followed.
+fn path_of(name: &OsStr) -> io::Result<PathBuf> {
+    let is_descriptor = ["/dev", "/proc"]
+        .iter()
+        .any(|top| Path::new(name).starts_with(top));
+    match is_descriptor {
+        true => Err(io::Error::other(
+            "the file of a descriptor: write - or the file's own name",
+        )),
+        false => fs::canonicalize(name),
     }
 }
 
@@ -115,13 +150,10 @@ fn write_checked(
     permissions: Option<fs::Permissions>,
     bytes: &[u8],
 ) -> io::Result<()> {
-    if let Some(permissions) = permissions {
-        file.set_permissions(permissions)?;
-    }
     file.write_all(bytes)?;
     file.sync_all()?;
-    match fs::read(path)? == bytes {
-        true => Ok(()),
-        false => Err(io::Error::other("the file does not hold what was written")),
+    if fs::read(path)? != bytes {
+        return Err(io::Error::other("the file does not hold what was written"));
     }
+    permissions.map_or(Ok(()), |permissions| file.set_permissions(permissions))
 }

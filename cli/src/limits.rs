@@ -3,7 +3,7 @@
 
 use crate::line::{example, Curve, Line};
 use pokyandi::line::{curve, CROSSFALL, CURVES, SPEED};
-use pokyandi::{Reason, Refusal};
+use pokyandi::{element, Reason, Refusal};
 use std::ops::RangeInclusive;
 
 /// The greatest number that the library takes.
@@ -90,6 +90,14 @@ pub fn most_curves() -> u64 {
     greatest(0..=1_000, |n| line(n).sheet().is_ok()).unwrap_or(0)
 }
 
+/// The bytes of the shortest sheet.
+pub fn fewest_bytes() -> usize {
+    let mut numbers = example().numbers;
+    numbers.truncate(curve(1));
+    numbers[CURVES] = 0;
+    Line { numbers }.sheet().map_or(0, |sheet| sheet.len())
+}
+
 /// The fewest bytes that the sheet would need to be whole.
 pub fn bytes_needed(sheet: &[u8]) -> usize {
     let lengthened = |size: u64| {
@@ -172,6 +180,22 @@ pub fn longest_spiral_with_arc(curve_there: Curve) -> Option<u64> {
     })
 }
 
+/// The arc that a curve would have without its spirals, µm. One that is refused
+/// as too short is a part of a longer one.
+pub fn simple_arc(curve: Curve) -> u64 {
+    const PARTS: u64 = 20;
+    let arc = |radius| {
+        let simple = Curve {
+            radius,
+            spiral: 0,
+            ..curve
+        };
+        simple.elements().map(|numbers| numbers[element::D])
+    };
+    let whole = || arc(PARTS * curve.radius).map_or(0, |whole| whole / PARTS);
+    arc(curve.radius).unwrap_or_else(|_| whole())
+}
+
 fn has_arc(curve: Curve) -> bool {
     !is_refused(curve.elements(), Reason::ShortArc)
 }
@@ -238,6 +262,13 @@ mod tests {
             ..there
         };
         assert_eq!(longest_spiral_with_arc(flat), None);
+        assert_eq!(simple_arc(there), 301_638_467);
+        assert_eq!(simple_arc(flat), 969);
+        let flattest = Curve {
+            radius: radius_range().0,
+            ..flat
+        };
+        assert_eq!(simple_arc(flattest), 96);
         let line = example().with(distance(0), 1);
         assert_eq!(least_distance(&line, 0), Some(180_991));
     }
@@ -249,6 +280,6 @@ mod tests {
             assert_eq!(bytes_needed(&sheet[..size]), 21);
         }
         assert_eq!(bytes_needed(&[&sheet[..], &[0; 90]].concat()), 21);
-        assert_eq!(bytes_needed(&[]), 7);
+        assert_eq!(fewest_bytes(), 10);
     }
 }

@@ -36,7 +36,7 @@ pub fn length(word: &str) -> Result<Quantity, String> {
     let has_unit = !unit.is_empty();
     let told = |fault| match fault {
         Fault::NotANumber if number.contains('+') && !has_unit => {
-            format!("{word} has no unit: write {word}km or {word}e")
+            format!("{word} has no unit: write {LENGTH_FORMS}")
         }
         Fault::TooFine if !has_unit => {
             format!("{word} without a unit is in mm and must be whole: for metres write {word}m")
@@ -72,8 +72,9 @@ fn counted_from(word: &str, number: &str, metres: u64) -> Result<Quantity, Strin
     if rest >= most {
         return Err(format!("{word} has {metres} m or more behind the +"));
     }
+    let value = whole.checked_add(rest).ok_or(told(Fault::TooLarge))?;
     Ok(Quantity {
-        value: whole + rest,
+        value,
         has_unit: true,
     })
 }
@@ -279,6 +280,8 @@ mod tests {
             "1.234,5m",
             "49d22m44s",
             "12+34+5km",
+            "18446744073710+0km",
+            "922337203685478+0e",
             "1e3m",
         ];
         for word in words {

@@ -12,6 +12,8 @@
 
 use crate::explain::{self, counted};
 use crate::field::Field;
+use crate::files::visible;
+use crate::limits;
 use crate::line::Line;
 use crate::quantity::Quantity;
 use pokyandi::{Reason, Refusal};
@@ -97,7 +99,7 @@ impl Text {
         } = &self.places;
         let place = refusal.place as usize;
         let Place { line, written } = match refusal.reason {
-            Reason::CurveCount => curves.last().unwrap_or(speed),
+            Reason::CurveCount => curves.get(limits::most_curves() as usize).unwrap_or(speed),
             Reason::Speed => speed,
             Reason::Crossfall => crossfall,
             Reason::Start => start,
@@ -105,7 +107,7 @@ impl Text {
             _ => curves.get(place.wrapping_sub(1)).unwrap_or(speed),
         };
         let words = explain::of_line(&self.line, refusal);
-        let words = format!("{}: {words}", escaped(written));
+        let words = format!("{}: {words}", visible(written));
         Remark { line: *line, words }
     }
 }
@@ -116,10 +118,10 @@ fn doubt(field: Field, Quantity { value, has_unit }: Quantity, line: usize) -> O
     let (small, unit, letter) = match field {
         Field::Start => (100_000, "metres", "m"),
         Field::Distance => (10_000, "metres", "m"),
+        Field::Radius => (10_000, "metres", "m"),
         Field::Spiral => (1_000, "metres", "m"),
         Field::Deflection => (100, "degrees", "d"),
-        // What is too small is refused.
-        Field::Speed | Field::Crossfall | Field::Radius => return None,
+        Field::Speed | Field::Crossfall => return None,
     };
     let is_doubtful = !has_unit && (1..small).contains(&value);
     let (name, written) = (field.name(), field.written(value));
@@ -149,7 +151,7 @@ impl<'a> Items<'a> {
         }
         let text = text.strip_prefix(b"\xEF\xBB\xBF").unwrap_or(text);
         let mut items = Vec::new();
-        for (i, line) in text.split(|byte| *byte == b'\n').enumerate() {
+        for (i, line) in lines(text).enumerate() {
             let words = words(line).map_err(|fault| Remark {
                 line: i + 1,
                 words: fault.into(),
@@ -178,11 +180,11 @@ impl<'a> Items<'a> {
             return remark(self.end, words);
         };
         if !item.words[0].eq_ignore_ascii_case(wanted[0]) {
-            let read = shown(item.words[0]);
+            let read = visible(item.words[0]);
             return remark(
                 item.line,
                 format!(
-                    "{read} stands where {} is wanted, as in: {example}",
+                    "\"{read}\" stands where {} is wanted, as in: {example}",
                     wanted[0]
                 ),
             );
@@ -219,7 +221,7 @@ impl<'a> Items<'a> {
     fn value(&mut self, item: &Item, word: usize, field: Field) -> Result<u64, Remark> {
         let quantity = field.read(item.words[word]).map_err(|words| Remark {
             line: item.line,
-            words: escaped(&words),
+            words: visible(&words),
         })?;
         self.doubts.extend(doubt(field, quantity, item.line));
         Ok(quantity.value)
@@ -239,7 +241,7 @@ impl Item<'_> {
             "right" => pokyandi::curve::RIGHT,
             "left" => pokyandi::curve::LEFT,
             _ => {
-                let words = format!("side: {} is not right or left", shown(self.words[1]));
+                let words = format!("side: \"{}\" is not right or left", visible(self.words[1]));
                 return remark(self.line, words);
             }
         };
@@ -250,34 +252,29 @@ impl Item<'_> {
 const NOT_TEXT: &str = "this is no text; if it is a sheet, pokyandi show prints its text";
 const NOT_UTF8: &str =
     "a letter is not UTF-8: save the text as UTF-8, or write angles as 49d22m44s";
+const LONG_WORD: &str = "a word has more than 60 letters";
+
+/// The lines of a text, each ended by LF, CRLF or CR.
+fn lines(text: &[u8]) -> impl Iterator<Item = &[u8]> {
+    let lines = text.split(|byte| *byte == b'\n');
+    let lines = lines.map(|line| line.strip_suffix(b"\r").unwrap_or(line));
+    lines.flat_map(|line| line.split(|byte| *byte == b'\r'))
+}
 
 /// The words of a line before its comment.
 fn words(line: &[u8]) -> Result<Vec<&str>, &'static str> {
+    const MOST_LETTERS: usize = 60;
     let before = line.split(|byte| *byte == b'#').next().unwrap_or_default();
     let is_no_text = |byte: &u8| byte.is_ascii_control() && !byte.is_ascii_whitespace();
     if before.iter().any(is_no_text) {
         return Err(NOT_TEXT);
     }
     let before = str::from_utf8(before).map_err(|_| NOT_UTF8)?;
-    Ok(before.split_whitespace().collect())
-}
-
-/// A word of the text for a message: in part where it is long.
-fn shown(word: &str) -> String {
-    const MOST: usize = 40;
-    let mut letters = word.chars();
-    let begin: String = letters.by_ref().take(MOST).collect();
-    let more = if letters.next().is_some() { ".." } else { "" };
-    format!("\"{}\"{more}", escaped(&begin))
-}
-
-/// Without control letters, which a terminal would obey.
-fn escaped(words: &str) -> String {
-    let escape = |letter: char| match letter.is_control() {
-        true => letter.escape_default().to_string(),
-        false => letter.to_string(),
-    };
-    words.chars().map(escape).collect()
+    let words: Vec<&str> = before.split_whitespace().collect();
+    match words.iter().any(|word| word.len() > MOST_LETTERS) {
+        true => Err(LONG_WORD),
+        false => Ok(words),
+    }
 }
 
 fn remark<T>(line: usize, words: String) -> Result<T, Remark> {

@@ -9,7 +9,7 @@ use std::io;
 
 pub fn run(sheets: Sheets, console: &mut Console) -> io::Result<Status> {
     each(sheets, console, |sheet, console| {
-        console.print(&sheet.heading())?;
+        console.print(sheet.heading().as_bytes())?;
         match tables(sheet) {
             Ok(text) => console.print(text.as_bytes()).map(|()| Status::Done),
             Err(refusal) => sheet.refuse(refusal, console),

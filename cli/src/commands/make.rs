@@ -23,52 +23,66 @@ pub fn run(text_name: &OsStr, sheet_name: &OsStr, console: &mut Console) -> io::
             return Ok(Status::Failed);
         }
     };
-    let mut say = |Remark { line, words }: &Remark| {
+    let (made, remarks) = make(&text);
+    for Remark { line, words } in remarks {
         console.say(&format!("{}:{line}: {words}", Name(text_name)));
-    };
-    match make(&text) {
-        Ok(made) => {
-            made.remarks.iter().for_each(say);
-            Ok(made.status.max(write(sheet_name, &made, console)?))
-        }
-        Err(fault) => {
-            say(&fault);
-            Ok(Status::Refused)
-        }
+    }
+    match made {
+        Some(made) => Ok(made.status.max(write(sheet_name, &made, console)?)),
+        None => Ok(Status::Refused),
     }
 }
 
-/// A sheet, and what is to be said of it and of its text.
+/// A sheet, and what is to be said of it.
 struct Made {
     sheet: Vec<u8>,
-    remarks: Vec<Remark>,
     summary: String,
     /// Whether its stations are refused.
     status: Status,
 }
 
-/// The sheet of a text, or what is wrong with the text.
-fn make(text: &[u8]) -> Result<Made, Remark> {
-    let text = Text::read(text)?;
-    let sheet = text.line.sheet().map_err(|refusal| text.remark(refusal))?;
+/// The sheet of a text, where there is one, and what is to be said of the text.
+fn make(text: &[u8]) -> (Option<Made>, Vec<Remark>) {
+    let mut text = match Text::read(text) {
+        Ok(text) => text,
+        Err(fault) => return (None, vec![fault]),
+    };
+    let mut remarks = std::mem::take(&mut text.warnings);
+    let sheet = match text.line.sheet() {
+        Ok(sheet) => sheet,
+        Err(refusal) => {
+            remarks.push(text.remark(refusal));
+            return (None, remarks);
+        }
+    };
     if Line::of_sheet(&sheet).as_ref() != Ok(&text.line) {
         let words = "the sheet read back is another line: nothing is written".into();
-        return Err(Remark { line: 1, words });
+        remarks.push(Remark { line: 1, words });
+        return (None, remarks);
     }
-    let size = counted(sheet.len(), "byte");
-    let curves = counted(text.line.curve_count(), "curve");
     let refusal = pokyandi::check(&sheet).err();
-    let (status, but) = match refusal {
-        None => (Status::Done, ""),
-        Some(_) => (Status::Refused, "; its stations are refused"),
-    };
-    let refusal = refusal.map(|refusal| text.remark(refusal));
-    Ok(Made {
-        sheet,
-        remarks: text.warnings.into_iter().chain(refusal).collect(),
-        summary: format!("written, {size}, {curves}{but}"),
-        status,
-    })
+    remarks.extend(refusal.map(|refusal| text.remark(refusal)));
+    (
+        Some(Made::of(&text.line, sheet, refusal.is_some())),
+        remarks,
+    )
+}
+
+impl Made {
+    fn of(line: &Line, sheet: Vec<u8>, is_refused: bool) -> Made {
+        let size = counted(sheet.len(), "byte");
+        let curves = counted(line.curve_count(), "curve");
+        let (status, but) = match is_refused {
+            true => (Status::Refused, "; its stations are refused"),
+            false => (Status::Done, ""),
+        };
+        let summary = format!("written, {size}, {curves}{but}");
+        Made {
+            sheet,
+            summary,
+            status,
+        }
+    }
 }
 
 /// Puts the sheet into its file, or out.

@@ -2,11 +2,11 @@
 
 use crate::console::{Console, Status};
 use crate::explain;
-use crate::files::{read_all, read_sheet, Name};
+use crate::files::{is_standard, read_all, read_sheet, Name};
 use pokyandi::Refusal;
 use std::ffi::{OsStr, OsString};
 use std::io;
-use std::os::unix::ffi::{OsStrExt, OsStringExt};
+use std::os::unix::ffi::OsStringExt;
 
 /// The sheets of a run, by their files' names.
 #[derive(Debug, PartialEq, Eq)]
@@ -30,27 +30,21 @@ pub fn each(
     console: &mut Console,
     mut work: impl FnMut(&Sheet, &mut Console) -> io::Result<Status>,
 ) -> io::Result<Status> {
-    let (names, among_others) = match sheets {
-        Sheets::Listed(list) => match read_all(&list) {
-            Ok(text) => (names_in(text), true),
-            Err(error) => return Ok(failed(console, &list, &error)),
-        },
-        Sheets::Named(names) => {
-            let several = names.len() > 1;
-            (names, several)
-        }
+    let Some(names) = names_of(&sheets, console) else {
+        return Ok(Status::Failed);
     };
+    let among_others = names.len() > 1 || matches!(sheets, Sheets::Listed(_));
     let mut worst = Status::Done;
     for (i, name) in names.iter().enumerate() {
         let status = match read_sheet(name) {
-            Ok(bytes) => work(
-                &Sheet {
+            Ok(bytes) => {
+                let sheet = Sheet {
                     name,
                     bytes,
                     among_others,
-                },
-                console,
-            )?,
+                };
+                work(&sheet, console)?
+            }
             Err(error) => failed(console, name, &error),
         };
         worst = worst.max(status);
@@ -59,13 +53,38 @@ pub fn each(
     Ok(worst)
 }
 
+/// The names of the sheets; none, with words, where they cannot be had.
+fn names_of(sheets: &Sheets, console: &mut Console) -> Option<Vec<OsString>> {
+    let (names, list) = match sheets {
+        Sheets::Named(names) => (names.clone(), None),
+        Sheets::Listed(list) => match read_all(list) {
+            Ok(text) => (names_in(&text), Some(list)),
+            Err(error) => {
+                failed(console, list, &error);
+                return None;
+            }
+        },
+    };
+    if names.is_empty() {
+        let list = list.map_or("".as_ref(), OsString::as_os_str);
+        console.say(&format!("pokyandi: {}: it names no sheet", Name(list)));
+    }
+    let inputs = names.iter().chain(list).filter(|name| is_standard(name));
+    if inputs.count() > 1 {
+        console.say("pokyandi: standard input can be read only once");
+        return None;
+    }
+    Some(names)
+}
+
 fn failed(console: &mut Console, name: &OsStr, error: &io::Error) -> Status {
     console.fail(&Name(name), error);
     Status::Failed
 }
 
 /// The lines of a list that are not empty.
-fn names_in(text: Vec<u8>) -> Vec<OsString> {
+fn names_in(text: &[u8]) -> Vec<OsString> {
+    let text = text.strip_prefix(b"\xEF\xBB\xBF").unwrap_or(text);
     let lines = text.split(|byte| *byte == b'\n');
     let names = lines.map(|line| line.strip_suffix(b"\r").unwrap_or(line));
     names
@@ -76,10 +95,10 @@ fn names_in(text: Vec<u8>) -> Vec<OsString> {
 
 impl Sheet<'_> {
     /// The line above the sheet's results, where others are in the same run.
-    pub fn heading(&self) -> Vec<u8> {
+    pub fn heading(&self) -> String {
         match self.among_others {
-            true => [b"SHEET ", self.name.as_bytes(), b"\n"].concat(),
-            false => Vec::new(),
+            true => format!("SHEET {}\n", Name(self.name)),
+            false => String::new(),
         }
     }
 

@@ -47,7 +47,7 @@ fn print_text(sheet: &Sheet, console: &mut Console) -> io::Result<Status> {
     let mut text = [0; TEXT_BYTES];
     // This many bytes are enough for every sheet.
     let count = pokyandi::text(&sheet.bytes, &mut text).unwrap_or(0);
-    console.print(&sheet.heading())?;
+    console.print(sheet.heading().as_bytes())?;
     console.print(&text[..count])?;
     match pokyandi::check(&sheet.bytes) {
         Ok(_) => Ok(Status::Done),
@@ -64,7 +64,7 @@ fn print_list(
     written: impl Fn(u64) -> String,
     console: &mut Console,
 ) -> io::Result<Status> {
-    console.print(&sheet.heading())?;
+    console.print(sheet.heading().as_bytes())?;
     let points = match points(&sheet.bytes) {
         Ok(points) => points,
         Err(refusal) => return sheet.refuse(refusal, console),

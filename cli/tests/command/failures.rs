@@ -87,11 +87,82 @@ fn folders_and_missing_files() {
 }
 
 #[test]
-fn a_sheet_does_not_replace_its_text() {
+fn descriptors_that_are_open_the_wrong_way() {
+    let output = "standard output: Bad file descriptor";
+    check_failure(
+        "pokyandi stations stations/case-01.sheet 1</dev/null",
+        output,
+    );
+    check_failure("pokyandi make line.txt - 1<line.txt", output);
+    check_failure(
+        "pokyandi check - 0>/dev/null",
+        "standard input: Bad file descriptor",
+    );
+    check_failure(
+        "pokyandi check - - <stations/case-01.sheet",
+        "standard input can be read only once",
+    );
+}
+
+/// A folder with the text `line.txt`, and that text.
+fn folder_of_line() -> (Folder, Vec<u8>) {
     let folder = Folder::new();
     let text = fs::read(samples().join("line.txt")).unwrap();
-    let path = folder.file("line.txt", &text);
-    let run = run(&["make".as_ref(), path.as_os_str(), path.as_os_str()]);
-    assert_eq!(run.status, Some(2));
-    assert_eq!(fs::read(path).unwrap(), text);
+    folder.file("line.txt", &text);
+    (folder, text)
+}
+
+#[test]
+fn a_sheet_does_not_replace_its_text() {
+    let (folder, text) = folder_of_line();
+    let lines = [
+        "pokyandi make line.txt line.txt",
+        "pokyandi make - line.txt <line.txt",
+        "pokyandi make - /dev/stdin <line.txt",
+        "ln -s line.txt link; pokyandi make link line.txt",
+    ];
+    for line in lines {
+        let run = run_in_shell(&folder.path(""), line);
+        assert_eq!(run.status, Some(2), "{line}: {}", run.words);
+        assert_eq!(fs::read(folder.path("line.txt")).unwrap(), text, "{line}");
+    }
+}
+
+#[test]
+fn what_is_not_a_sheet_s_own_file_is_kept() {
+    let (folder, _) = folder_of_line();
+    let lines = [
+        (
+            "seq 1000 >log; pokyandi make line.txt /dev/stdout >>log",
+            "log",
+            3_893,
+        ),
+        (
+            "seq 1000 >log; pokyandi make line.txt /dev/fd/3 3>>log",
+            "log",
+            3_893,
+        ),
+        (
+            "ln -sf missing link; pokyandi make line.txt link",
+            "missing",
+            0,
+        ),
+        ("ln -sf loop loop; pokyandi make line.txt loop", "loop", 0),
+        (
+            "echo old >old; chmod 444 old; pokyandi make line.txt old",
+            "old",
+            4,
+        ),
+    ];
+    for (line, name, size) in lines {
+        let run = run_in_shell(&folder.path(""), line);
+        assert_eq!(run.status, Some(2), "{line}: {}", run.words);
+        let kept = fs::metadata(folder.path(name)).map_or(0, |file| file.len());
+        assert_eq!(kept, size, "{line}");
+    }
+    let left = folder
+        .names()
+        .into_iter()
+        .filter(|name| name.starts_with('.'));
+    assert_eq!(left.count(), 0);
 }

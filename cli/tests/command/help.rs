@@ -52,7 +52,7 @@ fn the_help_lists_the_subcommands() {
 
 #[test]
 fn wrong_usage_has_status_2_and_no_results() {
-    let lines: [&[&str]; 14] = [
+    let lines: [&[&str]; 17] = [
         &[],
         &["station"],
         &["--verbose"],
@@ -60,6 +60,9 @@ fn wrong_usage_has_status_2_and_no_results() {
         &["stations", "--as", "feet"],
         &["stations", "--list"],
         &["stations", "--list", "a", "b.sheet"],
+        &["stations", "--list", "a", "--list", "b"],
+        &["check", "--=a", "stations/case-01.sheet"],
+        &["check", "--help=a"],
         &["elements"],
         &["elements", "--as", "km", "a.sheet"],
         &["check"],

@@ -32,6 +32,8 @@ fn the_texts_that_offices_write() {
         CASE_1.to_string(),
         CASE_1.trim_end().to_string(),
         CASE_1.replace('\n', "\r\n"),
+        CASE_1.replace('\n', "\r"),
+        CASE_1.replace("500000\n", "500000 # to PI 1\r"),
         CASE_1.replace(' ', "\t"),
         CASE_1.replace("start", "\n  # valley\n\u{a0}start "),
         CASE_1.replace("500000", "500000# to PI 1"),
@@ -146,4 +148,15 @@ fn a_link_to_a_sheet_stays_a_link() {
     assert_eq!(make(&folder, CASE_1, &link).1, Some(0));
     assert_eq!(fs::read(&sheet).unwrap(), case_1_sheet());
     assert!(fs::symlink_metadata(&link).unwrap().is_symlink());
+}
+
+#[test]
+fn warnings_are_told_beside_a_refusal() {
+    let folder = Folder::new();
+    let text = CASE_1.replace("177764 350000 40000", "49 350 40");
+    let (words, status) = make(&folder, &text, &folder.path("line.sheet"));
+    let lines: Vec<&str> = words.lines().collect();
+    assert_eq!((lines.len(), status), (4, Some(1)), "{words}");
+    assert!(lines[1].ends_with("warning: radius 350 is 0.350 m; for metres write 350m"));
+    assert!(lines[3].contains("refused 10 at curve 1: the radius is 0.350 m; "));
 }

@@ -94,6 +94,9 @@ fn names_with_spaces_and_commas() {
     let listed = run(&["stations".as_ref(), "--list".as_ref(), list.as_os_str()]).text();
     let one = format!("SHEET {name}\nPOINT CURVE STATION\nEND 0 500.000000\n");
     assert_eq!(listed, one.repeat(2));
+    let marked = folder.file("a list", format!("\u{feff}{name}").as_bytes());
+    let listed = run(&["stations".as_ref(), "--list".as_ref(), marked.as_os_str()]).text();
+    assert_eq!(listed, one);
 }
 
 #[test]
@@ -151,4 +154,19 @@ fn progress_on_a_terminal_alone() {
         let shown = on_terminal.text();
         assert!(shown.contains(" of 60000 sheets"), "{shown}");
     }
+}
+
+#[test]
+fn a_list_without_names() {
+    let run = run_in_shell(&samples(), "pokyandi check --list /dev/null");
+    let words = "pokyandi: /dev/null: it names no sheet\n";
+    assert_eq!((run.words.as_str(), run.status), (words, Some(0)));
+}
+
+#[test]
+fn names_that_a_terminal_would_obey() {
+    let folder = Folder::new();
+    folder.file("a\x1b[2J\n.sheet", b"");
+    let run = run_in_shell(&folder.path(""), "pokyandi check *.sheet");
+    assert!(run.text().starts_with("a\\u{1b}[2J\\n.sheet: refused 1: "));
 }
