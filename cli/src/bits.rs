@@ -50,7 +50,9 @@ mod tests {
 
     #[test]
     fn the_fields_of_an_accepted_sheet_are_those_that_the_library_reads() {
-        let line = example();
-        assert_eq!(fields_of(&line.sheet().unwrap()), (1, line));
+        let mountain_road = include_bytes!("../../samples/stations/mountain-road.sheet");
+        for sheet in [example().sheet().unwrap(), mountain_road.to_vec()] {
+            assert_eq!(fields_of(&sheet), (1, Line::of_sheet(&sheet).unwrap()));
+        }
     }
 }

@@ -100,6 +100,13 @@ fn names_with_spaces_and_commas() {
 }
 
 #[test]
+fn every_sample_is_checked_in_words() {
+    let run = run_in_shell(&samples().join("stations"), "pokyandi check *.sheet");
+    assert_eq!(run.text(), include_str!("checked_samples.txt"));
+    assert_eq!((run.status, run.words.as_str()), (Some(1), ""));
+}
+
+#[test]
 fn one_faulty_sheet_does_not_stop_the_others() {
     let run = run(&[
         "check",
