@@ -101,7 +101,10 @@ fn names_with_spaces_and_commas() {
 
 #[test]
 fn every_sample_is_checked_in_words() {
-    let run = run_in_shell(&samples().join("stations"), "pokyandi check *.sheet");
+    let run = run_in_shell(
+        &samples().join("stations"),
+        "export LC_ALL=C; pokyandi check *.sheet",
+    );
     assert_eq!(run.text(), include_str!("checked_samples.txt"));
     assert_eq!((run.status, run.words.as_str()), (Some(1), ""));
 }
@@ -174,6 +177,6 @@ fn a_list_without_names() {
 fn names_that_a_terminal_would_obey() {
     let folder = Folder::new();
     folder.file("a\x1b[2J\n.sheet", b"");
-    let run = run_in_shell(&folder.path(""), "pokyandi check *.sheet");
+    let run = run_in_shell(&folder.path(""), "export LC_ALL=C; pokyandi check *.sheet");
     assert!(run.text().starts_with("a\\u{1b}[2J\\n.sheet: refused 1: "));
 }
