@@ -214,8 +214,9 @@ fn tangent(line: &Line, i: usize) -> Option<u64> {
 #[cfg(test)]
 mod tests {
     use super::*;
+    use crate::limits::{DEFLECTION, RADIUS, SPIRAL};
     use crate::line::example;
-    use pokyandi::line::{curve, CROSSFALL, SPEED};
+    use pokyandi::line::{CROSSFALL, SPEED};
 
     fn sentence(line: &Line) -> String {
         of_line(line, line.check().unwrap_err())
@@ -234,16 +235,14 @@ mod tests {
 
     #[test]
     fn spirals_that_are_too_short_for_their_radius() {
-        let spiral = curve(1) + pokyandi::curve::SPIRAL;
-        let radius = curve(1) + pokyandi::curve::RADIUS;
-        let wide = example().with(radius, 200_000).with(spiral, 61_739);
+        let wide = example().with(RADIUS, 200_000).with(SPIRAL, 61_739);
         assert_eq!(
             sentence(&wide),
             "refused 13 at curve 1: the spiral is 61.739 m; the least is 61.740 m, \
              by 0.036 V³ / R at V = 70 km/h and R = 200.000 m"
         );
         let narrow = example().with(SPEED, 40).with(CROSSFALL, 12);
-        let narrow = narrow.with(radius, 47_999).with(spiral, 47_999);
+        let narrow = narrow.with(RADIUS, 47_999).with(SPIRAL, 47_999);
         assert_eq!(
             sentence(&narrow),
             "refused 13 at curve 1: the spiral is 47.999 m; none is long enough, \
@@ -254,15 +253,12 @@ mod tests {
 
     #[test]
     fn arcs_that_other_spirals_would_leave() {
-        let deflection = curve(1) + pokyandi::curve::DEFLECTION;
-        let spiral = curve(1) + pokyandi::curve::SPIRAL;
-        let long = example().with(deflection, 30_000).with(spiral, 60_000);
+        let long = example().with(DEFLECTION, 30_000).with(SPIRAL, 60_000);
         assert!(sentence(&long).ends_with(", or spirals of 50.904 m at most"));
-        let short = example().with(deflection, 23_573);
+        let short = example().with(DEFLECTION, 23_573);
         assert!(sentence(&short).ends_with(", or no spirals"));
-        let none = example().with(deflection, 1).with(spiral, 0);
-        let radius = curve(1) + pokyandi::curve::RADIUS;
-        assert!(sentence(&none.with(radius, 200_000)).ends_with(" of 0°00'02\" at least"));
+        let none = example().with(DEFLECTION, 1).with(SPIRAL, 0);
+        assert!(sentence(&none.with(RADIUS, 200_000)).ends_with(" of 0°00'02\" at least"));
     }
 
     #[test]

@@ -2,8 +2,7 @@
 
 use crate::limits;
 use crate::quantity::{angle, degrees, kilometres, length, metres_of_mm, number, Quantity};
-use pokyandi::curve::DEFLECTION;
-use pokyandi::line::{curve, distance, CROSSFALL, START};
+use pokyandi::line::{distance, CROSSFALL, START};
 
 #[derive(Clone, Copy, Debug, PartialEq, Eq)]
 pub enum Field {
@@ -58,7 +57,7 @@ impl Field {
             Field::Crossfall => limits::range(CROSSFALL),
             Field::Start => limits::range(START),
             Field::Distance => limits::range(distance(0)),
-            Field::Deflection => limits::range(curve(1) + DEFLECTION),
+            Field::Deflection => limits::range(limits::DEFLECTION),
             Field::Radius => limits::radius_range(),
             Field::Spiral => (0, limits::greatest_spiral(limits::radius_range().1)),
         };

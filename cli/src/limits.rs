@@ -6,6 +6,11 @@ use pokyandi::line::{curve, CROSSFALL, CURVES, SPEED};
 use pokyandi::{element, Reason, Refusal};
 use std::ops::RangeInclusive;
 
+/// Where the numbers of the example's curve stand.
+pub const DEFLECTION: usize = curve(1) + pokyandi::curve::DEFLECTION;
+pub const RADIUS: usize = curve(1) + pokyandi::curve::RADIUS;
+pub const SPIRAL: usize = curve(1) + pokyandi::curve::SPIRAL;
+
 /// The greatest number that the library takes.
 const MOST: u64 = u32::MAX as u64;
 
@@ -51,22 +56,17 @@ fn range_in(line: &Line, index: usize) -> (u64, u64) {
 
 /// The range of a radius, mm.
 pub fn radius_range() -> (u64, u64) {
-    let simple = example().with(curve(1) + pokyandi::curve::SPIRAL, 0);
-    range_in(&simple, curve(1) + pokyandi::curve::RADIUS)
+    let simple = example().with(SPIRAL, 0);
+    range_in(&simple, RADIUS)
 }
 
 /// The editions that are read.
 pub fn editions() -> Vec<u8> {
-    let sheet = example().sheet().unwrap_or_default();
     let is_read = |edition: &u8| {
-        let of_edition = |(i, byte): (usize, &u8)| {
-            if i == 0 {
-                byte & 15 | edition << 4
-            } else {
-                *byte
-            }
-        };
-        let sheet: Vec<u8> = sheet.iter().enumerate().map(of_edition).collect();
+        let mut sheet = example().sheet().unwrap_or_default();
+        if let Some(first) = sheet.first_mut() {
+            *first = edition << 4 | *first & 15;
+        }
         !is_refused(pokyandi::check(&sheet), Reason::Edition)
     };
     (0..16).filter(is_read).collect()
@@ -78,24 +78,23 @@ pub fn speeds() -> Vec<u64> {
     (0..=u64::from(u8::MAX)).filter(serves).collect()
 }
 
+/// The example's line with its curve as many times.
+fn example_of(n: u64) -> Line {
+    let mut numbers = example().numbers;
+    let entry = numbers.split_off(curve(1));
+    numbers.extend((0..n).flat_map(|_| entry.iter()));
+    numbers[CURVES] = n;
+    Line { numbers }
+}
+
 /// The greatest number of curves.
 pub fn most_curves() -> u64 {
-    let line = |n: u64| {
-        let mut numbers = example().numbers;
-        let entry = numbers.split_off(curve(1));
-        numbers.extend((0..n).flat_map(|_| entry.iter()));
-        numbers[CURVES] = n;
-        Line { numbers }
-    };
-    greatest(0..=1_000, |n| line(n).sheet().is_ok()).unwrap_or(0)
+    greatest(0..=1_000, |n| example_of(n).sheet().is_ok()).unwrap_or(0)
 }
 
 /// The bytes of the shortest sheet.
 pub fn fewest_bytes() -> usize {
-    let mut numbers = example().numbers;
-    numbers.truncate(curve(1));
-    numbers[CURVES] = 0;
-    Line { numbers }.sheet().map_or(0, |sheet| sheet.len())
+    example_of(0).sheet().map_or(0, |sheet| sheet.len())
 }
 
 /// The fewest bytes that the sheet would need to be whole.
@@ -111,29 +110,27 @@ pub fn bytes_needed(sheet: &[u8]) -> usize {
 
 /// The example's line with this speed and crossfall, its curve as sharp as can be.
 fn design(line: &Line) -> Line {
-    let (_, sharpest) = range(curve(1) + pokyandi::curve::DEFLECTION);
+    let (_, sharpest) = range(DEFLECTION);
     example()
         .with(SPEED, line.speed())
         .with(CROSSFALL, line.crossfall())
-        .with(curve(1) + pokyandi::curve::DEFLECTION, sharpest)
-        .with(curve(1) + pokyandi::curve::SPIRAL, 0)
+        .with(DEFLECTION, sharpest)
+        .with(SPIRAL, 0)
 }
 
 /// The least radius for the speed and crossfall of a line, mm.
 pub fn least_radius(line: &Line) -> Option<u64> {
-    let index = curve(1) + pokyandi::curve::RADIUS;
     let (low, high) = radius_range();
     let design = design(line);
-    let serves = |radius| !is_refused(design.with(index, radius).check(), Reason::LeastRadius);
+    let serves = |radius| !is_refused(design.with(RADIUS, radius).check(), Reason::LeastRadius);
     least(low..=high, serves)
 }
 
 /// The least length of a spiral at this radius for the speed of a line, mm;
 /// none where no spiral that may stand there is long enough.
 pub fn least_spiral(line: &Line, radius: u64) -> Option<u64> {
-    let index = curve(1) + pokyandi::curve::SPIRAL;
-    let design = design(line).with(curve(1) + pokyandi::curve::RADIUS, radius);
-    let serves = |spiral| !is_refused(design.with(index, spiral).check(), Reason::LeastSpiral);
+    let design = design(line).with(RADIUS, radius);
+    let serves = |spiral| !is_refused(design.with(SPIRAL, spiral).check(), Reason::LeastSpiral);
     least(1..=greatest_spiral(radius), serves)
 }
 
@@ -151,33 +148,27 @@ pub fn least_radius_with_spiral(line: &Line) -> Option<u64> {
 
 /// The greatest length of a spiral at this radius, mm.
 pub fn greatest_spiral(radius: u64) -> u64 {
-    let spiral = curve(1) + pokyandi::curve::SPIRAL;
-    let line = example().with(curve(1) + pokyandi::curve::RADIUS, radius);
-    range_in(&line.with(spiral, 0), spiral).1
+    let line = example().with(RADIUS, radius).with(SPIRAL, 0);
+    range_in(&line, SPIRAL).1
 }
 
 /// The least deflection that leaves an arc at the radius and spiral of a curve,
 /// seconds.
-pub fn least_deflection(curve_there: Curve) -> Option<u64> {
-    let (low, high) = range(curve(1) + pokyandi::curve::DEFLECTION);
+pub fn least_deflection(found: Curve) -> Option<u64> {
+    let (low, high) = range(DEFLECTION);
     least(low..=high, |deflection| {
         has_arc(Curve {
             deflection,
-            ..curve_there
+            ..found
         })
     })
 }
 
 /// The longest spiral that leaves an arc at the deflection and radius of a curve,
 /// mm; none where not even a simple curve has one.
-pub fn longest_spiral_with_arc(curve_there: Curve) -> Option<u64> {
-    let range = 0..=greatest_spiral(curve_there.radius);
-    greatest(range, |spiral| {
-        has_arc(Curve {
-            spiral,
-            ..curve_there
-        })
-    })
+pub fn longest_spiral_with_arc(found: Curve) -> Option<u64> {
+    let range = 0..=greatest_spiral(found.radius);
+    greatest(range, |spiral| has_arc(Curve { spiral, ..found }))
 }
 
 /// The arc that a curve would have without its spirals, µm. One that is refused
@@ -217,7 +208,6 @@ pub fn least_distance(line: &Line, i: usize) -> Option<u64> {
 #[cfg(test)]
 mod tests {
     use super::*;
-    use pokyandi::curve::DEFLECTION;
     use pokyandi::line::{distance, START};
 
     #[test]
@@ -227,7 +217,7 @@ mod tests {
         assert_eq!(range(START), (0, 200_000_000));
         assert_eq!(range(distance(0)), (1, 20_000_000));
         assert_eq!(range(distance(1)), (1, 20_000_000));
-        assert_eq!(range(curve(1) + DEFLECTION), (1, 432_000));
+        assert_eq!(range(DEFLECTION), (1, 432_000));
         assert_eq!(radius_range(), (20_000, 5_000_000));
         assert_eq!(editions(), [1]);
         assert_eq!(greatest_spiral(350_000), 350_000);
