@@ -8,7 +8,6 @@ use std::ffi::{OsStr, OsString};
 use std::os::unix::ffi::OsStrExt;
 
 /// What the arguments ask for.
-#[derive(Debug, PartialEq, Eq)]
 pub enum Request {
     Help(&'static str),
     Version,
@@ -19,27 +18,61 @@ pub enum Request {
     Show { sheet: OsString },
 }
 
+#[derive(Clone, Copy, PartialEq, Eq)]
+enum Subcommand {
+    Stations,
+    Elements,
+    Check,
+    Make,
+    Show,
+}
+
+impl Subcommand {
+    fn named(name: &str) -> Result<Subcommand, String> {
+        match name {
+            "stations" => Ok(Subcommand::Stations),
+            "elements" => Ok(Subcommand::Elements),
+            "check" => Ok(Subcommand::Check),
+            "make" => Ok(Subcommand::Make),
+            "show" => Ok(Subcommand::Show),
+            _ => Err(format!("{name} is no subcommand\n{}", help::USAGE)),
+        }
+    }
+
+    fn help(self) -> &'static str {
+        match self {
+            Subcommand::Stations => help::STATIONS,
+            Subcommand::Elements => help::ELEMENTS,
+            Subcommand::Check => help::CHECK,
+            Subcommand::Make => help::MAKE,
+            Subcommand::Show => help::SHOW,
+        }
+    }
+
+    /// Whether it takes several sheets, and so a list of them.
+    fn takes_list(self) -> bool {
+        match self {
+            Subcommand::Stations | Subcommand::Elements | Subcommand::Check => true,
+            Subcommand::Make | Subcommand::Show => false,
+        }
+    }
+}
+
 /// The request, or what is wrong with the arguments.
 pub fn read(words: &[OsString]) -> Result<Request, String> {
-    let Some((first, rest)) = words.split_first() else {
-        return Err(format!("a subcommand is missing\n{}", help::USAGE));
-    };
-    let first = first.to_string_lossy();
-    let asked = rest
-        .first()
-        .and_then(|word| help::of(&word.to_string_lossy()));
-    match &*first {
-        "--help" | "-h" | "help" => return Ok(Request::Help(asked.unwrap_or(help::all()))),
-        "--version" | "-V" => return Ok(Request::Version),
-        _ => {}
-    }
-    let Some(help) = help::of(&first) else {
-        return Err(format!("{first} is no subcommand\n{}", help::USAGE));
-    };
-    let words = Words::read(&first, rest)?;
-    match words.wants_help {
-        true => Ok(Request::Help(help)),
-        false => words.request(&first),
+    let texts: Vec<Cow<str>> = words.iter().map(|word| word.to_string_lossy()).collect();
+    let texts: Vec<&str> = texts.iter().map(|text| &**text).collect();
+    match texts[..] {
+        [] => Err(format!("a subcommand is missing\n{}", help::USAGE)),
+        ["--help" | "-h" | "help"] => Ok(Request::Help(help::ALL)),
+        ["--help" | "-h" | "help", name, ..] => Ok(Request::Help(Subcommand::named(name)?.help())),
+        ["--version" | "-V", ..] => Ok(Request::Version),
+        [name, ..] => {
+            let subcommand = Subcommand::named(name)?;
+            let told = |problem| format!("{problem}; see pokyandi {name} --help");
+            let words = Words::read(subcommand, &words[1..]).map_err(told)?;
+            words.request(subcommand).map_err(told)
+        }
     }
 }
 
@@ -53,8 +86,7 @@ struct Words {
 }
 
 impl Words {
-    fn read(subcommand: &str, words: &[OsString]) -> Result<Words, String> {
-        let see = format!("see pokyandi {subcommand} --help");
+    fn read(subcommand: Subcommand, words: &[OsString]) -> Result<Words, String> {
         let mut read = Words::default();
         let mut rest = words.iter();
         while let Some(word) = rest.next() {
@@ -62,76 +94,71 @@ impl Words {
             let mut value = || {
                 let next = joined.map(OsStr::to_os_string);
                 let next = next.or_else(|| rest.next().cloned());
-                next.ok_or(format!("{option} lacks its value; {see}"))
+                next.ok_or(format!("{option} lacks its value"))
             };
-            match (&*option, subcommand) {
-                ("--as", "stations") => read.form = Some(form(&value()?)?),
-                ("--list", "stations" | "elements" | "check") if read.list.is_none() => {
-                    read.list = Some(value()?);
+            match &*option {
+                "--as" if subcommand == Subcommand::Stations => {
+                    once(&option, &mut read.form, form(&value()?)?)?;
                 }
-                ("--list", "stations" | "elements" | "check") => {
-                    return Err(format!("--list is given twice; {see}"));
-                }
-                ("--help" | "-h", _) if joined.is_none() => read.wants_help = true,
-                ("--", _) if joined.is_none() => read.names.extend(rest.by_ref().cloned()),
-                _ if option.starts_with('-') && option != "-" => {
-                    return Err(format!("{option} is no option of {subcommand}; {see}"));
-                }
+                "--list" if subcommand.takes_list() => once(&option, &mut read.list, value()?)?,
+                "--help" | "-h" if joined.is_none() => read.wants_help = true,
+                "--" if joined.is_none() => read.names.extend(rest.by_ref().cloned()),
+                "-" => read.names.push(word.clone()),
+                _ if option.starts_with('-') => return Err(format!("{option} is no option here")),
                 _ => read.names.push(word.clone()),
             }
         }
         Ok(read)
     }
 
-    fn request(self, subcommand: &str) -> Result<Request, String> {
-        let form = self.form.unwrap_or(Form::Metres);
+    fn request(self, subcommand: Subcommand) -> Result<Request, String> {
+        if self.wants_help {
+            return Ok(Request::Help(subcommand.help()));
+        }
         match subcommand {
-            "stations" if self.names.is_empty() && self.list.is_none() => Ok(Request::Stations {
-                form,
-                sheets: Sheets::Named(vec!["-".into()]),
+            Subcommand::Stations => Ok(Request::Stations {
+                form: self.form.unwrap_or(Form::Metres),
+                sheets: self.sheets_or(Some("-"))?,
             }),
-            "stations" => Ok(Request::Stations {
-                form,
-                sheets: self.sheets(subcommand)?,
+            Subcommand::Elements => Ok(Request::Elements {
+                sheets: self.sheets_or(None)?,
             }),
-            "elements" => Ok(Request::Elements {
-                sheets: self.sheets(subcommand)?,
+            Subcommand::Check => Ok(Request::Check {
+                sheets: self.sheets_or(None)?,
             }),
-            "check" => Ok(Request::Check {
-                sheets: self.sheets(subcommand)?,
-            }),
-            "make" => {
-                let [text, sheet] = self.names(subcommand, "a text and a sheet")?;
+            Subcommand::Make => {
+                let [text, sheet] = self.names("a text and a sheet are wanted")?;
                 Ok(Request::Make { text, sheet })
             }
-            _ => {
-                let [sheet] = self.names(subcommand, "one sheet")?;
+            Subcommand::Show => {
+                let [sheet] = self.names("one sheet is wanted")?;
                 Ok(Request::Show { sheet })
             }
         }
     }
 
-    fn sheets(self, subcommand: &str) -> Result<Sheets, String> {
-        match (self.list, self.names.is_empty()) {
-            (None, false) => Ok(Sheets::Named(self.names)),
-            (Some(list), true) => Ok(Sheets::Listed(list)),
-            (Some(_), false) => Err(format!(
-                "{subcommand} takes sheets or a list of them, not both"
-            )),
-            (None, true) => Err(format!(
-                "{subcommand} lacks a sheet; see pokyandi {subcommand} --help"
-            )),
+    /// The sheets that are named or listed; where none is, the usual one.
+    fn sheets_or(self, usual: Option<&str>) -> Result<Sheets, String> {
+        match (self.list, self.names.is_empty(), usual) {
+            (None, false, _) => Ok(Sheets::Named(self.names)),
+            (Some(list), true, _) => Ok(Sheets::Listed(list)),
+            (Some(_), false, _) => Err("sheets or a list of them are wanted, not both".into()),
+            (None, true, Some(usual)) => Ok(Sheets::Named(vec![usual.into()])),
+            (None, true, None) => Err("a sheet is missing".into()),
         }
     }
 
     /// Exactly as many names.
-    fn names<const N: usize>(
-        self,
-        subcommand: &str,
-        wanted: &str,
-    ) -> Result<[OsString; N], String> {
-        let told = |_| format!("{subcommand} takes {wanted}; see pokyandi {subcommand} --help");
-        self.names.try_into().map_err(told)
+    fn names<const N: usize>(self, wanted: &str) -> Result<[OsString; N], String> {
+        self.names.try_into().map_err(|_| wanted.into())
+    }
+}
+
+/// Puts the value of an option into its place, which must be free.
+fn once<T>(option: &str, place: &mut Option<T>, value: T) -> Result<(), String> {
+    match place.replace(value) {
+        None => Ok(()),
+        Some(_) => Err(format!("{option} is given twice")),
     }
 }
 

@@ -55,7 +55,6 @@ fn headed(Refusal { reason, place }: Refusal, found: String) -> String {
 
 /// How many bytes there are, and how many there should be.
 fn bytes(sheet: &[u8], line: &Line) -> String {
-    const HEAD_BYTES: usize = 7;
     let fewest = limits::fewest_bytes();
     let needed = limits::bytes_needed(sheet);
     let size = match sheet.len() {
@@ -63,10 +62,10 @@ fn bytes(sheet: &[u8], line: &Line) -> String {
         size => counted(size, "byte"),
     };
     match sheet.len() {
-        size if size == needed => {
+        found if found == needed => {
             "a bit behind the last distance is set; the bits that fill the last byte are 0".into()
         }
-        0..HEAD_BYTES => format!("the sheet has {size}; the shortest has {fewest}"),
+        found if found < fewest => format!("the sheet has {size}; the shortest has {fewest}"),
         _ => format!(
             "the sheet has {size}; with {} it takes {needed}",
             curves(line)
@@ -160,11 +159,13 @@ fn wider(line: &Line) -> String {
 
 fn short_arc(line: &Line, curve: Curve) -> String {
     let arc = limits::simple_arc(curve) as i64 - 1_000 * curve.spiral as i64;
-    let least = limits::least_deflection(curve).map_or("none".into(), degrees);
+    let least = limits::least_deflection(curve).map_or(String::new(), |least| {
+        format!("; it takes a deflection of {} at least", degrees(least))
+    });
     let [radius, spiral] = [curve.radius, curve.spiral].map(metres_of_mm);
     format!(
-        "the arc is {}, under 1 mm, by R A - L at R = {radius}, A = {} in radians and L = {spiral}; \
-         it takes a deflection of {least} at least{}",
+        "the arc is {}, under 1 mm, by R A - L at R = {radius}, A = {} in radians and L = {spiral}\
+         {least}{}",
         metres_of_um(arc),
         degrees(curve.deflection),
         shorter_spirals(line, curve)
@@ -195,9 +196,11 @@ fn short_straight(line: &Line, i: usize) -> String {
         tangent.map(|um| format!("TT {} of curve {i}", metres_of_um(um as i64)))
     };
     let less: Vec<String> = tangents.iter().filter_map(shown).collect();
-    let least = limits::least_distance(line, i).map_or("none".into(), metres_of_mm);
+    let least = limits::least_distance(line, i).map_or(String::new(), |least| {
+        format!("; it takes a distance of {} at least", metres_of_mm(least))
+    });
     format!(
-        "the straight is {}, under 1 mm, by {} less {}; it takes a distance of {least} at least",
+        "the straight is {}, under 1 mm, by {} less {}{least}",
         metres_of_um(straight),
         metres_of_mm(line.distance(i)),
         less.join(" and ")

@@ -4,14 +4,14 @@
 use crate::console::input;
 use std::ffi::OsStr;
 use std::fmt;
-use std::fs::{self, File, OpenOptions};
+use std::fs::{self, File, Metadata, OpenOptions, Permissions};
 use std::io::{self, IsTerminal, Read, Write};
 use std::os::unix::fs::MetadataExt;
 use std::path::{Path, PathBuf};
 
 /// One byte more than the longest sheet, so that a longer one is seen.
 const MOST_OF_SHEET: u64 = pokyandi::SHEET_BYTES as u64 + 1;
-/// No text of a line is as long; what is larger is another file.
+/// What is larger is taken for another file.
 const MOST_OF_TEXT: u64 = 1 << 20;
 
 /// A file's name for people.
@@ -76,17 +76,27 @@ fn read(name: &OsStr, most: u64) -> io::Result<Vec<u8>> {
     Ok(bytes)
 }
 
-/// Whether a text that is read and a sheet that is written are one file.
+/// Whether both names lead to one file.
 pub fn are_same(text: &OsStr, sheet: &OsStr) -> bool {
-    let text = match is_standard(text) {
-        true => OsStr::new("/dev/stdin"),
-        false => text,
-    };
-    let file = |name| fs::metadata(name).ok().filter(|file| file.is_file());
-    match (file(text), file(sheet)) {
-        (Some(text), Some(sheet)) => (text.dev(), text.ino()) == (sheet.dev(), sheet.ino()),
+    match (fs::metadata(text), fs::metadata(sheet)) {
+        (Ok(text), Ok(sheet)) => text.is_file() && is_same(&text, &sheet),
         _ => false,
     }
+}
+
+fn is_same(one: &Metadata, other: &Metadata) -> bool {
+    (one.dev(), one.ino()) == (other.dev(), other.ino())
+}
+
+/// Whether this process has the file open: it is a text on standard input, or a
+/// name such as /dev/stdout leads to it.
+fn is_open(file: &Metadata) -> bool {
+    let descriptors = fs::read_dir("/proc/self/fd")
+        .into_iter()
+        .flatten()
+        .flatten();
+    let mut open = descriptors.filter_map(|entry| fs::metadata(entry.path()).ok());
+    open.any(|open| is_same(&open, file))
 }
 
 /// Puts the bytes into a file: written beside it, read back, compared and renamed,
@@ -96,27 +106,15 @@ pub fn replace(name: &OsStr, bytes: &[u8]) -> io::Result<()> {
         Ok(old) if old.is_dir() => Err(io::ErrorKind::IsADirectory.into()),
         Ok(old) if !old.is_file() => OpenOptions::new().write(true).open(name)?.write_all(bytes),
         Ok(old) if old.permissions().readonly() => Err(io::ErrorKind::PermissionDenied.into()),
-        Ok(old) => replace_file(&path_of(name)?, Some(old.permissions()), bytes),
+        Ok(old) if is_open(&old) => Err(io::Error::other("the file is in use, as text or output")),
+        Ok(old) => replace_file(&fs::canonicalize(name)?, Some(old.permissions()), bytes),
         Err(_) if fs::symlink_metadata(name).is_err() => replace_file(name.as_ref(), None, bytes),
         // A link that leads nowhere.
         Err(error) => Err(error),
     }
 }
 
-/// The path of a file that is there, its links followed.
-fn path_of(name: &OsStr) -> io::Result<PathBuf> {
-    let is_descriptor = ["/dev", "/proc"]
-        .iter()
-        .any(|top| Path::new(name).starts_with(top));
-    match is_descriptor {
-        true => Err(io::Error::other(
-            "the file of a descriptor: write - or the file's own name",
-        )),
-        false => fs::canonicalize(name),
-    }
-}
-
-fn replace_file(path: &Path, permissions: Option<fs::Permissions>, bytes: &[u8]) -> io::Result<()> {
+fn replace_file(path: &Path, permissions: Option<Permissions>, bytes: &[u8]) -> io::Result<()> {
     let (beside, file) = new_beside(path)?;
     let written = write_checked(file, &beside, permissions, bytes);
     let replaced = written.and_then(|()| fs::rename(&beside, path));
@@ -147,7 +145,7 @@ fn new_beside(path: &Path) -> io::Result<(PathBuf, File)> {
 fn write_checked(
     mut file: File,
     path: &Path,
-    permissions: Option<fs::Permissions>,
+    permissions: Option<Permissions>,
     bytes: &[u8],
 ) -> io::Result<()> {
     file.write_all(bytes)?;

@@ -19,10 +19,9 @@ usage: pokyandi stations [--as metres|km|estaca|csv] [SHEET..]
 pub const USAGE: &str = usage!();
 
 /// The help of the command as a whole.
-pub fn all() -> &'static str {
-    concat!(
-        usage!(),
-        "
+pub const ALL: &str = concat!(
+    usage!(),
+    "
 Stations of road alignments from packed sheets.
 
 stations   the stations of TS, SC, CS and ST of every curve, and of the end
@@ -31,7 +30,7 @@ check      a line for each sheet: fine, or why it is refused, with the limit mis
 make       the sheet of a plain text
 show       the text of a sheet
 
-The name - stands for standard input, as a sheet that is made for standard output.
+The name - stands for standard input; as the SHEET of make, for standard output.
 Where several sheets are taken, --list FILE takes those that FILE names.
 Exit status: 0 done; 1 a sheet is refused or a text is faulty; 2 wrong usage, or
 reading or writing failed. Results go to standard output, words to standard error.
@@ -48,22 +47,9 @@ From a plain text to stations:
     ST 1 660.649189
     END 0 879.659911
 "
-    )
-}
+);
 
-/// The help of a subcommand.
-pub fn of(subcommand: &str) -> Option<&'static str> {
-    match subcommand {
-        "stations" => Some(STATIONS),
-        "elements" => Some(ELEMENTS),
-        "check" => Some(CHECK),
-        "make" => Some(MAKE),
-        "show" => Some(SHOW),
-        _ => None,
-    }
-}
-
-const STATIONS: &str = "\
+pub const STATIONS: &str = "\
 usage: pokyandi stations [--as metres|km|estaca|csv] [SHEET..]
        pokyandi stations [--as metres|km|estaca|csv] --list FILE
 
@@ -91,7 +77,7 @@ be read does not stop the others.
     END 0 0+879.659911
 ";
 
-const ELEMENTS: &str = "\
+pub const ELEMENTS: &str = "\
 usage: pokyandi elements SHEET..
        pokyandi elements --list FILE
 
@@ -110,7 +96,7 @@ tangents leave of distance i, from ST of curve i to TS of the next.
     1           219.010722
 ";
 
-const CHECK: &str = "\
+pub const CHECK: &str = "\
 usage: pokyandi check SHEET..
        pokyandi check --list FILE
 
@@ -125,7 +111,7 @@ formula behind it.
     samples/stations/case-05-refused.sheet: refused 12 at curve 1: the radius is 167.750 m; the least is 167.751 m, by V² / (127 (e + f)) at V = 70 km/h, e = 8 % and f = 0.15
 ";
 
-const MAKE: &str = "\
+pub const MAKE: &str = "\
 usage: pokyandi make TEXT SHEET
 
 Makes the packed sheet of a plain text, one item on each line, in this order:
@@ -150,8 +136,9 @@ written in one of these forms:
     49d22m44s  49°22'44\"     degrees, minutes and seconds
     49.5d                    degrees
 
-Speed is in km/h; crossfall, the greatest superelevation e, in percent. What is finer than a mm or a second is an
-error. # begins a comment; blank lines, tabs, a byte order mark and CRLF are taken.
+Speed is in km/h; crossfall, the greatest superelevation e, in percent. What is
+finer than a mm or a second is an error, as are decimals without a unit. # begins a
+comment; blank lines, tabs, a byte order mark and CRLF are taken.
 
 The sheet is written beside the old one, read back and renamed: after an error the
 old one is as it was. Where the stations of the line are refused the sheet is made
@@ -162,7 +149,7 @@ that is probably in the wrong unit gets a warning.
     /tmp/line.sheet: written, 21 bytes, 1 curve
 ";
 
-const SHOW: &str = "\
+pub const SHOW: &str = "\
 usage: pokyandi show SHEET
 
 Prints the text of a sheet, which pokyandi make takes back to the same bytes.

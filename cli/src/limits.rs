@@ -89,12 +89,14 @@ fn example_of(n: u64) -> Line {
 
 /// The greatest number of curves.
 pub fn most_curves() -> u64 {
-    greatest(0..=1_000, |n| example_of(n).sheet().is_ok()).unwrap_or(0)
+    let most = greatest(0..=1_000, |n| example_of(n).sheet().is_ok());
+    most.expect("a line may be without curves")
 }
 
 /// The bytes of the shortest sheet.
 pub fn fewest_bytes() -> usize {
-    example_of(0).sheet().map_or(0, |sheet| sheet.len())
+    let sheet = example_of(0).sheet();
+    sheet.expect("the example is in range").len()
 }
 
 /// The fewest bytes that the sheet would need to be whole.
@@ -105,7 +107,8 @@ pub fn bytes_needed(sheet: &[u8]) -> usize {
         sheet
     };
     let is_whole = |size| !is_refused(pokyandi::check(&lengthened(size)), Reason::Truncated);
-    least(0..=pokyandi::SHEET_BYTES as u64, is_whole).unwrap_or(0) as usize
+    let needed = least(0..=pokyandi::SHEET_BYTES as u64, is_whole);
+    needed.expect("so many bytes are enough for every sheet") as usize
 }
 
 /// The example's line with this speed and crossfall, its curve as sharp as can be.
@@ -183,8 +186,8 @@ pub fn simple_arc(curve: Curve) -> u64 {
         };
         simple.elements().map(|numbers| numbers[element::D])
     };
-    let whole = || arc(PARTS * curve.radius).map_or(0, |whole| whole / PARTS);
-    arc(curve.radius).unwrap_or_else(|_| whole())
+    let longer = || arc(PARTS * curve.radius).expect("so long an arc is not refused");
+    arc(curve.radius).unwrap_or_else(|_| longer() / PARTS)
 }
 
 fn has_arc(curve: Curve) -> bool {

@@ -3,6 +3,9 @@
 use pokyandi::line::{curve, distance, CROSSFALL, CURVES, SPEED, START};
 use pokyandi::{Refusal, ELEMENT_NUMBERS, LINE_NUMBERS, SHEET_BYTES};
 
+/// The points of a curve, in the order of the library's stations.
+pub const POINTS: [&str; 4] = ["TS", "SC", "CS", "ST"];
+
 /// The numbers of a line, in the order of the library; they need not be in range.
 #[derive(Clone, Debug, PartialEq, Eq)]
 pub struct Line {

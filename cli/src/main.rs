@@ -1,6 +1,6 @@
 //! The command `pokyandi`, for people: it reads arguments, sheets and plain
-//! text, and prints. Every result is a number that a call of the proved library
-//! answered.
+//! text, and prints. Stations and elements are numbers that a call of the proved
+//! library answered; a straight is the difference of two stations.
 
 mod arguments;
 mod bits;

@@ -19,14 +19,16 @@ pub struct Quantity {
 }
 
 /// How lengths are written, for messages.
-pub const LENGTH_FORMS: &str = "310500 (mm), 310.5m, 12+340.5km or 617+0.00e";
+const LENGTH_FORMS: &str = "310500 (mm), 310.5m, 12+340.5km or 617+0.00e";
 /// How angles are written, for messages.
-pub const ANGLE_FORMS: &str = "177764 (seconds), 49d22m44s, 49.5d or 49°22'44\"";
+const ANGLE_FORMS: &str = "177764 (seconds), 49d22m44s, 49.5d or 49°22'44\"";
 
 /// A length in mm.
 pub fn length(word: &str) -> Result<Quantity, String> {
     let (number, unit) = word.split_at(unit_begin(word));
     let value = match unit {
+        // Metres were probably meant, whatever the decimals are.
+        "" if number.contains(['.', ',']) => units_in(number, MM_IN_M).and(Err(Fault::TooFine)),
         "" | "mm" => units_in(number, 1),
         "m" => units_in(number, MM_IN_M),
         "km" => return counted_from(word, number, M_IN_KM),
@@ -265,6 +267,8 @@ mod tests {
             "m",
             "km",
             "310.5",
+            "12345.000",
+            "1.234,5",
             "0.0005m",
             "12.3405km",
             "12+1000km",

@@ -103,7 +103,7 @@ impl Text {
             Reason::Speed => speed,
             Reason::Crossfall => crossfall,
             Reason::Start => start,
-            Reason::Distance | Reason::ShortStraight => &distances[place],
+            Reason::Distance | Reason::ShortStraight => distances.get(place).unwrap_or(speed),
             _ => curves.get(place.wrapping_sub(1)).unwrap_or(speed),
         };
         let words = explain::of_line(&self.line, refusal);
@@ -117,8 +117,7 @@ impl Text {
 fn doubt(field: Field, Quantity { value, has_unit }: Quantity, line: usize) -> Option<Remark> {
     let (small, unit, letter) = match field {
         Field::Start => (100_000, "metres", "m"),
-        Field::Distance => (10_000, "metres", "m"),
-        Field::Radius => (10_000, "metres", "m"),
+        Field::Distance | Field::Radius => (10_000, "metres", "m"),
         Field::Spiral => (1_000, "metres", "m"),
         Field::Deflection => (100, "degrees", "d"),
         Field::Speed | Field::Crossfall => return None,
@@ -154,7 +153,7 @@ impl<'a> Items<'a> {
         for (i, line) in lines(text).enumerate() {
             let words = words(line).map_err(|fault| Remark {
                 line: i + 1,
-                words: fault.into(),
+                words: fault,
             })?;
             if !words.is_empty() {
                 items.push(Item { line: i + 1, words });
@@ -252,7 +251,7 @@ impl Item<'_> {
 const NOT_TEXT: &str = "this is no text; if it is a sheet, pokyandi show prints its text";
 const NOT_UTF8: &str =
     "a letter is not UTF-8: save the text as UTF-8, or write angles as 49d22m44s";
-const LONG_WORD: &str = "a word has more than 60 letters";
+const MOST_LETTERS: usize = 60;
 
 /// The lines of a text, each ended by LF, CRLF or CR.
 fn lines(text: &[u8]) -> impl Iterator<Item = &[u8]> {
@@ -262,17 +261,16 @@ fn lines(text: &[u8]) -> impl Iterator<Item = &[u8]> {
 }
 
 /// The words of a line before its comment.
-fn words(line: &[u8]) -> Result<Vec<&str>, &'static str> {
-    const MOST_LETTERS: usize = 60;
+fn words(line: &[u8]) -> Result<Vec<&str>, String> {
     let before = line.split(|byte| *byte == b'#').next().unwrap_or_default();
     let is_no_text = |byte: &u8| byte.is_ascii_control() && !byte.is_ascii_whitespace();
     if before.iter().any(is_no_text) {
-        return Err(NOT_TEXT);
+        return Err(NOT_TEXT.into());
     }
     let before = str::from_utf8(before).map_err(|_| NOT_UTF8)?;
     let words: Vec<&str> = before.split_whitespace().collect();
-    match words.iter().any(|word| word.len() > MOST_LETTERS) {
-        true => Err(LONG_WORD),
+    match words.iter().any(|word| word.chars().count() > MOST_LETTERS) {
+        true => Err(format!("a word has more than {MOST_LETTERS} letters")),
         false => Ok(words),
     }
 }

@@ -4,6 +4,7 @@ use crate::commands::sheets::{each, Sheets};
 use crate::console::{Console, Status};
 use crate::explain;
 use crate::files::Name;
+use crate::line::POINTS;
 use crate::quantity::kilometres;
 use pokyandi::ROW_NUMBERS;
 use std::io;
@@ -22,7 +23,7 @@ pub fn run(sheets: Sheets, console: &mut Console) -> io::Result<Status> {
 
 /// `fine, 1 curve, end at 0+879.659911 km`
 fn fine(row: &[u64]) -> String {
-    let end = row.last().copied().unwrap_or(0);
-    let curves = explain::counted(row.len() / 4, "curve");
-    format!("fine, {curves}, end at {} km", kilometres(end, 6))
+    let end = row.last().expect("a row has an end");
+    let curves = explain::counted(row.len() / POINTS.len(), "curve");
+    format!("fine, {curves}, end at {} km", kilometres(*end, 6))
 }

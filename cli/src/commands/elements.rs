@@ -2,7 +2,8 @@
 
 use crate::commands::sheets::{each, Sheet, Sheets};
 use crate::console::{Console, Status};
-use crate::line::Line;
+use crate::decimal::decimal;
+use crate::line::{Line, POINTS};
 use pokyandi::{Refusal, ROW_NUMBERS};
 use std::fmt::Write;
 use std::io;
@@ -44,10 +45,14 @@ fn tables(sheet: &Sheet) -> Result<String, Refusal> {
 
 /// The straights between start, stations and end, µm: from ST to the next TS.
 fn straights(start: u64, row: &[u64]) -> impl Iterator<Item = u64> + '_ {
-    let ends_of_curves = row.iter().skip(3).step_by(4).copied();
+    let ends_of_curves = row
+        .iter()
+        .skip(POINTS.len() - 1)
+        .step_by(POINTS.len())
+        .copied();
     let begins = [start].into_iter().chain(ends_of_curves);
     begins
-        .zip(row.iter().step_by(4))
+        .zip(row.iter().step_by(POINTS.len()))
         .map(|(begin, end)| end - begin)
 }
 
@@ -56,7 +61,7 @@ fn put_row(text: &mut String, number: usize, lengths: &[u64]) {
     // A text takes all that is written to it.
     let _ = write!(text, "{number:<8}");
     for um in lengths {
-        let _ = write!(text, " {:>6}.{:06}", um / 1_000_000, um % 1_000_000);
+        let _ = write!(text, " {:>13}", decimal(*um, 6));
     }
     text.push('\n');
 }

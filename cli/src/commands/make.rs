@@ -55,6 +55,7 @@ fn make(text: &[u8]) -> (Option<Made>, Vec<Remark>) {
             return (None, remarks);
         }
     };
+    // Reader and writer of the library undo each other; it is seen here once more.
     if Line::of_sheet(&sheet).as_ref() != Ok(&text.line) {
         let words = "the sheet read back is another line: nothing is written".into();
         remarks.push(Remark { line: 1, words });

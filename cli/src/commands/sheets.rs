@@ -9,7 +9,6 @@ use std::io;
 use std::os::unix::ffi::OsStringExt;
 
 /// The sheets of a run, by their files' names.
-#[derive(Debug, PartialEq, Eq)]
 pub enum Sheets {
     Named(Vec<OsString>),
     /// The names stand in this file, a line each.
@@ -21,7 +20,7 @@ pub struct Sheet<'a> {
     pub name: &'a OsStr,
     pub bytes: Vec<u8>,
     /// Whether others are in the same run, so that its results want its name.
-    pub among_others: bool,
+    among_others: bool,
 }
 
 /// Does something with each sheet. The error is that of standard output.
@@ -65,9 +64,9 @@ fn names_of(sheets: &Sheets, console: &mut Console) -> Option<Vec<OsString>> {
             }
         },
     };
-    if names.is_empty() {
-        let list = list.map_or("".as_ref(), OsString::as_os_str);
+    if let (Some(list), true) = (list, names.is_empty()) {
         console.say(&format!("pokyandi: {}: it names no sheet", Name(list)));
+        return None;
     }
     let inputs = names.iter().chain(list).filter(|name| is_standard(name));
     if inputs.count() > 1 {

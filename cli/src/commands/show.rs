@@ -22,7 +22,7 @@ pub fn run(name: &OsStr, console: &mut Console) -> io::Result<Status> {
 }
 
 /// The text of a line.
-pub fn text_of(line: &Line) -> String {
+fn text_of(line: &Line) -> String {
     let mut text = format!("speed {}km/h\n", line.speed());
     text += &format!("crossfall {}%\n", line.crossfall());
     text += &format!("start {}km\n", kilometres(line.start(), 3));

@@ -3,6 +3,7 @@
 use crate::commands::sheets::{each, Sheet, Sheets};
 use crate::console::{Console, Status};
 use crate::decimal::decimal;
+use crate::line::POINTS;
 use crate::quantity::{estacas, kilometres};
 use pokyandi::{Refusal, ROW_NUMBERS, TEXT_BYTES};
 use std::fmt::Write;
@@ -45,8 +46,8 @@ pub fn run(form: Form, sheets: Sheets, console: &mut Console) -> io::Result<Stat
 /// What the program `stations` prints.
 fn print_text(sheet: &Sheet, console: &mut Console) -> io::Result<Status> {
     let mut text = [0; TEXT_BYTES];
-    // This many bytes are enough for every sheet.
-    let count = pokyandi::text(&sheet.bytes, &mut text).unwrap_or(0);
+    let count = pokyandi::text(&sheet.bytes, &mut text);
+    let count = count.expect("so many bytes are enough for every sheet");
     console.print(sheet.heading().as_bytes())?;
     console.print(&text[..count])?;
     match pokyandi::check(&sheet.bytes) {
@@ -127,7 +128,6 @@ struct Point {
 
 /// The points of a sheet in order; the end has curve 0.
 fn points(sheet: &[u8]) -> Result<Vec<Point>, Refusal> {
-    const NAMES: [&str; 4] = ["TS", "SC", "CS", "ST"];
     let mut row = [0; ROW_NUMBERS];
     let count = pokyandi::stations(sheet, &mut row)?;
     let point = |(i, &station): (usize, &u64)| match i + 1 == count {
@@ -137,8 +137,8 @@ fn points(sheet: &[u8]) -> Result<Vec<Point>, Refusal> {
             station,
         },
         false => Point {
-            name: NAMES[i % 4],
-            curve: i / 4 + 1,
+            name: POINTS[i % POINTS.len()],
+            curve: i / POINTS.len() + 1,
             station,
         },
     };

@@ -131,17 +131,19 @@ fn a_sheet_does_not_replace_its_text() {
 #[test]
 fn what_is_not_a_sheet_s_own_file_is_kept() {
     let (folder, _) = folder_of_line();
+    let log = "seq 1000 >log; ln -sf /proc/self/fd/1 descriptor; pokyandi make line.txt";
+    let [output, third, link, dots] = [
+        "/proc/self/fd/1 >>log",
+        "/dev/fd/3 3>>log",
+        "descriptor >>log",
+        "./../${PWD##*/}/descriptor >>log",
+    ]
+    .map(|sheet| format!("{log} {sheet}"));
     let lines = [
-        (
-            "seq 1000 >log; pokyandi make line.txt /dev/stdout >>log",
-            "log",
-            3_893,
-        ),
-        (
-            "seq 1000 >log; pokyandi make line.txt /dev/fd/3 3>>log",
-            "log",
-            3_893,
-        ),
+        (&*output, "log", 3_893),
+        (&*third, "log", 3_893),
+        (&*link, "log", 3_893),
+        (&*dots, "log", 3_893),
         (
             "ln -sf missing link; pokyandi make line.txt link",
             "missing",

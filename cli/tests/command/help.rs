@@ -52,12 +52,14 @@ fn the_help_lists_the_subcommands() {
 
 #[test]
 fn wrong_usage_has_status_2_and_no_results() {
-    let lines: [&[&str]; 17] = [
+    let lines: [&[&str]; 19] = [
         &[],
         &["station"],
         &["--verbose"],
         &["stations", "--as"],
         &["stations", "--as", "feet"],
+        &["stations", "--as", "km", "--as", "km", "a.sheet"],
+        &["help", "station"],
         &["stations", "--list"],
         &["stations", "--list", "a", "b.sheet"],
         &["stations", "--list", "a", "--list", "b"],

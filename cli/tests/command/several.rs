@@ -1,7 +1,9 @@
 //! Several sheets in one run, and the forms of stations.
 
 use crate::run::{run, run_in_shell, run_with_input, sample_files, samples, Folder};
+use std::ffi::OsStr;
 use std::fs;
+use std::path::Path;
 
 #[test]
 fn one_sheet_in_metres_is_what_the_program_stations_prints() {
@@ -27,27 +29,92 @@ fn one_sheet_in_metres_is_what_the_program_stations_prints() {
     }
 }
 
+/// What is printed of a sheet.
+fn printed(arguments: &[&str], path: &Path) -> String {
+    let mut arguments: Vec<&OsStr> = arguments.iter().map(OsStr::new).collect();
+    arguments.push(path.as_os_str());
+    run(&arguments).text()
+}
+
+/// A number of µm in metres, `319.010722`.
+fn micrometres(metres: &str) -> u64 {
+    assert_eq!(metres.find('.'), metres.len().checked_sub(7), "{metres}");
+    metres.replace('.', "").parse().unwrap()
+}
+
+/// Kilometres and metres, or estacas and metres, in µm.
+fn counted(station: &str, metres: u64) -> u64 {
+    let (count, rest) = station.split_once('+').unwrap();
+    let rest = micrometres(rest.trim());
+    assert!(rest < metres * 1_000_000, "{station}");
+    count.trim().parse::<u64>().unwrap() * metres * 1_000_000 + rest
+}
+
 #[test]
-fn every_form_prints_the_same_stations() {
-    let case_1 = "stations/case-01.sheet";
-    let printed = |form: &str| run(&["stations", "--as", form, case_1]).text();
-    let forms = [
-        ("km", "TS 1 0+319.010722", "END 0 0+879.659911"),
-        ("estaca", "TS 1 15 + 19.010722", "END 0 43 + 19.659911"),
-    ];
-    for (form, first, last) in forms {
-        let text = printed(form);
-        let lines: Vec<&str> = text.lines().collect();
-        assert_eq!(
-            (lines[0], lines[1], lines[5]),
-            ("POINT CURVE STATION", first, last)
-        );
+fn every_form_has_the_stations_of_the_library() {
+    const NAMES: [&str; 4] = ["TS", "SC", "CS", "ST"];
+    for path in sample_files("sheet") {
+        let mut row = [0; pokyandi::ROW_NUMBERS];
+        let Ok(count) = pokyandi::stations(&fs::read(&path).unwrap(), &mut row) else {
+            continue;
+        };
+        let [km, estaca, csv] =
+            ["km", "estaca", "csv"].map(|form| printed(&["stations", "--as", form], &path));
+        for text in [&km, &estaca, &csv] {
+            assert_eq!(text.lines().count(), count + 1, "{text}");
+        }
+        let lines = km.lines().zip(estaca.lines()).zip(csv.lines()).skip(1);
+        for (i, ((km, estaca), csv)) in lines.enumerate() {
+            let (name, curve) = match i + 1 == count {
+                true => ("END", 0),
+                false => (NAMES[i % 4], i / 4 + 1),
+            };
+            let point = format!("{name} {curve} ");
+            assert_eq!(counted(km.strip_prefix(&point).unwrap(), 1_000), row[i]);
+            assert_eq!(counted(estaca.strip_prefix(&point).unwrap(), 20), row[i]);
+            let point = format!("{},{name},{curve},", path.display());
+            assert_eq!(micrometres(csv.strip_prefix(&point).unwrap()), row[i]);
+        }
     }
-    // The csv has the columns of the list in metres behind the sheet's name.
-    let metres = printed("metres");
-    let rows = metres.lines().skip(1).map(|line| line.replace(' ', ","));
-    let csv: String = rows.map(|row| format!("{case_1},{row}\n")).collect();
-    assert_eq!(printed("csv"), format!("sheet,point,curve,station\n{csv}"));
+}
+
+#[test]
+fn elements_and_straights_are_those_of_the_library() {
+    for path in sample_files("sheet") {
+        let sheet = fs::read(&path).unwrap();
+        let (mut row, mut line) = ([0; pokyandi::ROW_NUMBERS], [0; pokyandi::LINE_NUMBERS]);
+        let Ok(count) = pokyandi::stations(&sheet, &mut row) else {
+            continue;
+        };
+        pokyandi::read(&sheet, &mut line).unwrap();
+        let n = count / 4;
+        let text = printed(&["elements"], &path);
+        let cells = |line: &str| {
+            line.split_whitespace()
+                .map(String::from)
+                .collect::<Vec<_>>()
+        };
+        let lines: Vec<Vec<String>> = text.lines().map(cells).collect();
+        let (curves, straights) = lines.split_at(if n > 0 { n + 1 } else { 0 });
+        for (i, cells) in curves.iter().enumerate().skip(1) {
+            let [a, r, l] = [1, 2, 3].map(|k| line[pokyandi::line::curve(i) + k]);
+            let mut numbers = [0; pokyandi::ELEMENT_NUMBERS];
+            pokyandi::elements(a, r, l, &mut numbers).unwrap();
+            let printed: Vec<u64> = cells[1..].iter().map(|cell| micrometres(cell)).collect();
+            assert_eq!((&cells[0], &printed[..]), (&i.to_string(), &numbers[..]));
+        }
+        let mut station = 1_000 * u64::from(line[pokyandi::line::START]);
+        for (i, cells) in straights.iter().skip(1).enumerate() {
+            station += micrometres(&cells[1]);
+            assert_eq!(
+                (&cells[0], station),
+                (&i.to_string(), row[4 * i]),
+                "{path:?}"
+            );
+            station = row[(4 * i + 3).min(count - 1)];
+        }
+        assert_eq!(straights.len(), n + 2);
+    }
 }
 
 #[test]
@@ -158,11 +225,12 @@ fn progress_on_a_terminal_alone() {
         "yes stations/mountain-road.sheet | head -n 60000 | pokyandi stations --list - >/dev/null";
     let in_pipe = run_in_shell(&samples(), &format!("{run} 2>&1"));
     assert_eq!((in_pipe.text().as_str(), in_pipe.status), ("", Some(0)));
-    let on_terminal = run_in_shell(&samples(), &format!("script -qec '{run}' /dev/null"));
     // Without the program `script` there is no terminal to be had.
-    if on_terminal.status == Some(0) {
+    if run_in_shell(&samples(), "command -v script").status == Some(0) {
+        let on_terminal = run_in_shell(&samples(), &format!("script -qec '{run}' /dev/null"));
         let shown = on_terminal.text();
         assert!(shown.contains(" of 60000 sheets"), "{shown}");
+        assert_eq!(on_terminal.status, Some(0));
     }
 }
 
@@ -170,7 +238,7 @@ fn progress_on_a_terminal_alone() {
 fn a_list_without_names() {
     let run = run_in_shell(&samples(), "pokyandi check --list /dev/null");
     let words = "pokyandi: /dev/null: it names no sheet\n";
-    assert_eq!((run.words.as_str(), run.status), (words, Some(0)));
+    assert_eq!((run.words.as_str(), run.status), (words, Some(2)));
 }
 
 #[test]
