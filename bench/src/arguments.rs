@@ -96,9 +96,36 @@ pub fn from_top(path: &str) -> PathBuf {
     bench.with_file_name("").join(path)
 }
 
+/// A program of the product and the reference's, by their paths.
+pub struct Programs {
+    pub own: PathBuf,
+    pub reference: PathBuf,
+}
+
+impl Options {
+    /// The station program and the reference's; nothing where one that no option
+    /// names is missing.
+    pub fn station_programs(&self) -> Result<Option<Programs>, String> {
+        self.programs(&self.program, "target/bin/stations")
+    }
+
+    /// The command and the reference's program; the same.
+    pub fn command_programs(&self) -> Result<Option<Programs>, String> {
+        self.programs(&self.command, "target/bin/pokyandi")
+    }
+
+    fn programs(&self, named: &Option<PathBuf>, usual: &str) -> Result<Option<Programs>, String> {
+        let own = find(named, usual)?;
+        let usual = "reference/target/release/reference";
+        let reference = find(&self.reference_program, usual)?;
+        let both = own.zip(reference);
+        Ok(both.map(|(own, reference)| Programs { own, reference }))
+    }
+}
+
 /// The program that an option names, which must be there, or the one at its usual
 /// place; nothing, with a note, where that one is missing.
-pub fn find(named: &Option<PathBuf>, usual: &str) -> Result<Option<PathBuf>, String> {
+fn find(named: &Option<PathBuf>, usual: &str) -> Result<Option<PathBuf>, String> {
     let path = named.clone().unwrap_or(from_top(usual));
     if path.is_file() {
         return Ok(Some(path));

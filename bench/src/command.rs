@@ -1,7 +1,7 @@
 //! The command `pokyandi` on many sheets in one process, against the reference's
 //! reports on as many lines.
 
-use crate::arguments::{find, told, Options};
+use crate::arguments::{told, Options, Programs};
 use crate::inputs::{Inputs, Road};
 use crate::measure::{alternate, Times, Work};
 use crate::table::print_row;
@@ -17,23 +17,6 @@ const SHEETS: usize = 100_000;
 const ROUNDS: usize = 3;
 const QUICK_SHEETS: usize = 1_000;
 const QUICK_ROUNDS: usize = 1;
-
-/// Both programs, by their paths.
-pub struct Programs {
-    command: PathBuf,
-    reference: PathBuf,
-}
-
-impl Programs {
-    /// Both programs; nothing where one that no option names is missing.
-    pub fn find(options: &Options) -> Result<Option<Programs>, String> {
-        let command = find(&options.command, "target/bin/pokyandi")?;
-        let usual = "reference/target/release/reference";
-        let reference = find(&options.reference_program, usual)?;
-        let both = command.zip(reference);
-        Ok(both.map(|(command, reference)| Programs { command, reference }))
-    }
-}
 
 /// A folder of sheets with a list of their names, and the same sheets in
 /// hexadecimal, a line each; it is removed in the end.
@@ -129,7 +112,7 @@ pub fn measure(programs: &Programs, options: &Options, inputs: &Inputs) -> Resul
 fn compare(programs: &Programs, roads: &[Road]) -> Result<(), String> {
     let folder = Folder::new(roads, roads.len())?;
     let output = command(programs, &folder).output();
-    let output = output.map_err(|error| told(&programs.command, &error))?;
+    let output = output.map_err(|error| told(&programs.own, &error))?;
     let mut expected = String::new();
     for (i, road) in roads.iter().enumerate() {
         let name = folder.sheet(i);
@@ -138,14 +121,14 @@ fn compare(programs: &Programs, roads: &[Road]) -> Result<(), String> {
     match output.status.success() && output.stdout == expected.as_bytes() {
         true => Ok(()),
         false => Err(told(
-            &programs.command,
+            &programs.own,
             &"prints other than the reference's reports",
         )),
     }
 }
 
 fn command(programs: &Programs, folder: &Folder) -> Command {
-    let mut command = Command::new(&programs.command);
+    let mut command = Command::new(&programs.own);
     command.args(["stations", "--list"]).arg(folder.list());
     command
 }

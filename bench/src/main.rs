@@ -20,7 +20,6 @@ use inputs::Inputs;
 use job::{work, work_baseline, Job, Task, JOBS};
 use library::Library;
 use measure::{alternate, time, Work};
-use programs::Programs;
 use reference_side::Reference;
 use std::process::ExitCode;
 use std::time::Duration;
@@ -72,8 +71,8 @@ fn once(job: &str, side: &str, times: usize) -> Result<(), String> {
 }
 
 fn measure_all(options: &Options) -> Result<(), String> {
-    let programs = Programs::find(options)?;
-    let command = command::Programs::find(options)?;
+    let programs = options.station_programs()?;
+    let command = options.command_programs()?;
     let inputs = Inputs::make();
     for job in JOBS {
         compare(job, &inputs)?;

@@ -1,7 +1,7 @@
 //! The station program and the reference's, run with a sheet on standard input;
 //! the reference takes it in hexadecimal digits.
 
-use crate::arguments::{find, told, Options};
+use crate::arguments::{told, Programs};
 use crate::inputs::mountain_road;
 use crate::measure::{alternate, Work};
 use crate::table::print_row;
@@ -10,26 +10,6 @@ use reference::report::report;
 use std::fs::{self, File};
 use std::path::{Path, PathBuf};
 use std::process::{Command, Stdio};
-
-/// Both programs, by their paths.
-pub struct Programs {
-    stations: PathBuf,
-    reference: PathBuf,
-}
-
-impl Programs {
-    /// Both programs; nothing when one that no option names is missing.
-    pub fn find(options: &Options) -> Result<Option<Programs>, String> {
-        let stations = find(&options.program, "target/bin/stations")?;
-        let usual = "reference/target/release/reference";
-        let reference = find(&options.reference_program, usual)?;
-        let both = stations.zip(reference);
-        Ok(both.map(|(stations, reference)| Programs {
-            stations,
-            reference,
-        }))
-    }
-}
 
 /// A program's input, which is removed in the end.
 struct InputFile(PathBuf);
@@ -59,7 +39,7 @@ pub fn measure(programs: &Programs, rounds: usize) -> Result<f64, String> {
     let InputFile(digits) = &InputFile::new("digits", digits_of(&sheet).as_bytes())?;
     let expected = report(&sheet);
     let mut works: Vec<Work> = vec![
-        Box::new(|| run_program(&programs.stations, &[], bytes, &expected)),
+        Box::new(|| run_program(&programs.own, &[], bytes, &expected)),
         Box::new(|| run_program(&programs.reference, &["reports"], digits, &expected)),
         Box::new(|| run_program(Path::new("true"), &[], bytes, "")),
     ];

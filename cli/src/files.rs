@@ -43,6 +43,12 @@ pub fn is_standard(name: &OsStr) -> bool {
     name == "-"
 }
 
+/// Whether a sheet of this name is written to standard output. The file behind it
+/// is never opened anew, which would write over what is there.
+pub fn is_output(name: &OsStr) -> bool {
+    is_standard(name) || name == "/dev/stdout"
+}
+
 /// The bytes of a sheet, of which no more are read than tell that it is too long.
 pub fn read_sheet(name: &OsStr) -> io::Result<Vec<u8>> {
     read(name, MOST_OF_SHEET)
@@ -89,7 +95,7 @@ fn is_same(one: &Metadata, other: &Metadata) -> bool {
 }
 
 /// Whether this process has the file open: it is a text on standard input, or a
-/// name such as /dev/stdout leads to it.
+/// name such as /dev/fd/3 leads to it.
 fn is_open(file: &Metadata) -> bool {
     let descriptors = fs::read_dir("/proc/self/fd")
         .into_iter()

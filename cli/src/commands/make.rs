@@ -2,7 +2,7 @@
 
 use crate::console::{Console, Status};
 use crate::explain::counted;
-use crate::files::{are_same, is_standard, read_text, replace, Name};
+use crate::files::{are_same, is_output, read_text, replace, Name};
 use crate::line::Line;
 use crate::text::{Remark, Text};
 use std::ffi::OsStr;
@@ -88,7 +88,7 @@ impl Made {
 
 /// Puts the sheet into its file, or out.
 fn write(name: &OsStr, made: &Made, console: &mut Console) -> io::Result<Status> {
-    if is_standard(name) {
+    if is_output(name) {
         return console.print(&made.sheet).map(|()| Status::Done);
     }
     match replace(name, &made.sheet) {

@@ -35,6 +35,10 @@ fn a_closed_output_or_input() {
         "standard output: Bad file descriptor",
     );
     check_failure(
+        "pokyandi make line.txt /dev/stdout >&-",
+        "standard output: Bad file descriptor",
+    );
+    check_failure(
         "pokyandi check stations/case-01.sheet >&-",
         "standard output: Bad file descriptor",
     );
@@ -162,6 +166,12 @@ fn what_is_not_a_sheet_s_own_file_is_kept() {
         let kept = fs::metadata(folder.path(name)).map_or(0, |file| file.len());
         assert_eq!(kept, size, "{line}");
     }
+    let added = "seq 1000 >log; pokyandi make line.txt /dev/stdout >>log";
+    assert_eq!(run_in_shell(&folder.path(""), added).status, Some(0));
+    assert_eq!(fs::metadata(folder.path("log")).unwrap().len(), 3_893 + 21);
+    let piped = "pokyandi make line.txt /proc/self/fd/1 | cat >piped";
+    assert_eq!(run_in_shell(&folder.path(""), piped).status, Some(0));
+    assert_eq!(fs::metadata(folder.path("piped")).unwrap().len(), 21);
     let left = folder
         .names()
         .into_iter()
