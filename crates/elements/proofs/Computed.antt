@@ -4,15 +4,9 @@ use Prim.Native.Nat.{ℕ, _+_, _-_, _*_, _/_, _≤_}
 use lib.IntN.{ℤ, pos, _+ℤ_, _-ℤ_, _*ℤ_}
 use Rattle.numbers.specs.Whole.{_÷_}
 use Rattle.numbers.proofs.Differences.{minus-le}
-use Rattle.refusals.specs.Table.{numberOf, placeOf}
-use Rattle.refusals.specs.Outcomes.{outcomeOf}
-use Rattle.line.specs.Checks.{curveChecks}
-use Rattle.refusals.specs.declared.Refusal.{Refusal}
-use Rattle.refusals.specs.declared.Verdict.{Verdict}
-use Rattle.refusals.specs.declared.Verdict.the-variants.{Pass, Refused}
-use Rattle.refusals.specs.Order.{outcome}
+use Rattle.refusals.specs.Replying.{answered}
 use Rattle.elements.specs.WorkingRule.{scale, rounded, halfAngle, sineOf, cosineOf, spiralX, spiralY, centreOf, shiftOf, arcOf, tanOf, tangentOf}
-use Rattle.elements.specs.Answer.{answered, declined, valuesBy, arcCheck, elementChecks, replyTo, elementReply}
+use Rattle.elements.specs.Answer.{valuesBy}
 
 -- ---- X and k, or Y and p
 
@@ -40,19 +34,10 @@ unfolding tangentOf
 computed-TT A R L ek ep eg eb =
     λ j. ek j +ℤ (eb ∙ (λ i. rounded ((pos (1000 * R) +ℤ ep i) *ℤ eg i) scale)) j
 
--- ---- the reply
+-- ---- the six values
 
 pub computed-values : (A R L : ℕ) {x y k p d tt : ℕ} → pos x ≡ spiralX R L → pos y ≡ spiralY R L → pos k ≡ centreOf R L → pos p ≡ shiftOf R L
     → pos d ≡ arcOf A R L → pos tt ≡ tangentOf A R L
     → answered (record { X = pos x; Y = pos y; k = pos k; p = pos p; D = pos d; TT = pos tt }) ≡ answered (valuesBy A R L)
 unfolding valuesBy
 computed-values A R L ex ey ek ep ed et = rw (ex, ey, ek, ep, ed, et)
-
-module _ (A R L : ℕ) {v : Verdict} (e : outcomeOf v ≡ outcome (curveChecks A R L 0)) where
-  pub reply-refused : {r : Refusal} → v ≡ Refused r → declined (numberOf r) (placeOf r) ≡ elementReply A R L
-  unfolding elementReply elementChecks
-  reply-refused {r} q = rw (← e, q)
-
-  pub reply-passed : v ≡ Pass → replyTo (outcome (arcCheck A R L 0)) (valuesBy A R L) ≡ elementReply A R L
-  unfolding elementReply elementChecks
-  reply-passed q = rw (← e, q)

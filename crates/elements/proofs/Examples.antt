@@ -5,7 +5,8 @@ use native.Mathlib.Nat.{mul-zero, zero-div}
 use lib.IntN.{pos, negsuc}
 use Rattle.line.specs.Checks.{curveChecks}
 use Rattle.elements.specs.WorkingRule.{rounded, fullAngle, halfAngle, spiralAngle, term, alternating, sineOf, cosineOf, t2, t3, t4, unitX, unitY, spiralX, spiralY, centreOf, shiftOf, arcOf, tanOf, tangentOf}
-use Rattle.elements.specs.Answer.{answered, declined, valuesBy, arcCheck, elementChecks, elementReply}
+use Rattle.refusals.specs.Replying.{answered, declined, reply}
+use Rattle.elements.specs.Answer.{valuesBy, arcCheck, elementChecks, elementReply}
 
 -- R 350,000 and L 40,000 in each; case 8 is without spirals.
 pub record Examples : Type 0 where
@@ -31,7 +32,7 @@ pub record Examples : Type 0 where
   pub spiral-refused : elementReply 1 20000 20001 ≡ declined 11 0
 
 pub examples : Examples
-unfolding curveChecks rounded fullAngle halfAngle spiralAngle term alternating sineOf cosineOf t2 t3 t4 unitX unitY spiralX spiralY centreOf shiftOf arcOf tanOf tangentOf valuesBy arcCheck elementChecks elementReply
+unfolding curveChecks rounded fullAngle halfAngle spiralAngle term alternating sineOf cosineOf t2 t3 t4 unitX unitY spiralX spiralY centreOf shiftOf arcOf tanOf tangentOf valuesBy arcCheck elementChecks elementReply reply
 examples =
     record {
       case-1 = refl;

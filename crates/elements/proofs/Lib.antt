@@ -4,6 +4,7 @@ pub mod Alternating
 pub mod SineAndCosine
 pub mod UnitSpiral
 pub mod Bounds
+pub mod SpiralPoints
 pub mod Arc
 pub mod Computed
 pub mod Replies

@@ -3,8 +3,8 @@ use Prim.Native.Nat.{ℕ}
 use lib.IntN.{ℤ, pos}
 use lib.Signed.{leZ}
 use Rattle.refusals.specs.Table.{numberOf, placeOf}
-use Rattle.refusals.specs.Outcomes.{Outcome, passed, refused}
-use Rattle.refusals.specs.Order.{Checks, check, _⨾_, outcome}
+use Rattle.refusals.specs.Order.{Checks, check, _⨾_}
+use Rattle.refusals.specs.Replying.{Reply, answered, declined, reply}
 use Rattle.line.specs.Checks.{curveChecks}
 use Rattle.elements.specs.declared.ElementAnswer.{ElementAnswer}
 use Rattle.elements.specs.declared.ElementAnswer.the-variants.{Found, Refused}
@@ -19,13 +19,8 @@ pub record Values : Type 0 where
   pub D : ℤ
   pub TT : ℤ
 
--- What the call says: the six values, or a refusal's number and place.
-pub data Reply : Type 0 where
-  answered : Values → Reply
-  declined : (number place : ℕ) → Reply
-
 -- What each case of the call's answer says.
-abbrev pub replyOf : ElementAnswer → Reply
+abbrev pub replyOf : ElementAnswer → Reply Values
 replyOf (Found e) =
     answered
     (record {
@@ -58,11 +53,6 @@ arcCheck A R L place = check (leZ (pos 1000) (arcOf A R L)) 14 place
 unfoldable pub elementChecks : ℕ → ℕ → ℕ → Checks
 elementChecks A R L = curveChecks A R L 0 ⨾ arcCheck A R L 0
 
--- The values where the checks pass, else the refusal.
-abbrev pub replyTo : Outcome → Values → Reply
-replyTo passed values = answered values
-replyTo (refused number place) values = declined number place
-
 -- What the call answers.
-unfoldable pub elementReply : ℕ → ℕ → ℕ → Reply
-elementReply A R L = replyTo (outcome (elementChecks A R L)) (valuesBy A R L)
+unfoldable pub elementReply : ℕ → ℕ → ℕ → Reply Values
+elementReply A R L = reply (elementChecks A R L) (valuesBy A R L)

@@ -2,3 +2,4 @@
 pub mod WorkingRule
 pub mod Answer
 pub mod SpiralElements
+pub mod SpiralPoint

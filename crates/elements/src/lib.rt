@@ -1,4 +1,5 @@
-// The elements of one curve by document 01's working rule.
+// The elements of one curve and the points of its spirals by document 01's working rule.
+mod point;
 mod rule;
 mod series;
 
@@ -7,6 +8,7 @@ use refusals::Refusal;
 // The scale of angles and ratios.
 const SCALE: u64 = 1000000000;
 
+pub use point::spiral_point;
 pub use rule::curve_elements;
 
 // The elements of a curve, in µm.
@@ -28,5 +30,19 @@ pub struct Elements {
 // What the call for one curve's elements answers.
 pub enum ElementAnswer {
     Found(Elements),
+    Refused(Refusal),
+}
+
+// A point of a spiral: its offsets from the tangent at the spiral's outer end, in µm.
+pub struct SpiralPoint {
+    // Along the tangent.
+    pub x: u64,
+    // Square to the tangent.
+    pub y: u64,
+}
+
+// What the call for one point of a spiral answers.
+pub enum PointAnswer {
+    Found(SpiralPoint),
     Refused(Refusal),
 }

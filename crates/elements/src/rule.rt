@@ -2,10 +2,10 @@
 ghost use mathlib.Core.Path.{_≡_};
 ghost use Prim.Native.Nat.{_*_, _/_, _<_, _≤_};
 ghost use lib.IntN.{pos};
-ghost use Rattle.refusals.specs.Order.{outcome};
+ghost use Rattle.refusals.specs.Replying.{answered, reply};
 ghost use Rattle.line.specs.Ranges.{CurveInRange};
 ghost use Rattle.elements.specs.WorkingRule.{scale, rounded, fullAngle, halfAngle, spiralAngle, unitX, unitY, arcOf, tanOf};
-ghost use Rattle.elements.specs.Answer.{answered, replyOf, replyTo, valuesBy, arcCheck, elementReply};
+ghost use Rattle.elements.specs.Answer.{replyOf, valuesBy, arcCheck, elementReply};
 ghost use Rattle.elements.specs.SpiralElements.{OffsetOf, SpiralsOf};
 ghost use Rattle.elements.specs.declared.ElementAnswer.the-variants.{Found};
 use crate::ElementAnswer;
@@ -31,7 +31,7 @@ struct Spirals {
 }
 
 // The rounding of an element's last division.
-fn round(product: u64, divisor: u64) -> u64
+pub(crate) fn round(product: u64, divisor: u64) -> u64
     requires { ⌜ 0 < divisor ⌝ }
     ensures { λ r. ⌜ pos r ≡ rounded (pos product) divisor ⌝ }
 {
@@ -68,7 +68,7 @@ fn half_angle(deflection: u64) -> u64
     deflection * 3141592654 / 1296000
 }
 
-fn spiral_angle(radius: u64, spiral: u64) -> u64
+pub(crate) fn spiral_angle(radius: u64, spiral: u64) -> u64
     requires { ⌜ (0 < radius) × (spiral ≤ 500000) × (spiral ≤ radius) ⌝ }
     ensures { λ r. ⌜ (r ≡ spiralAngle radius spiral) × (r ≤ 500000000) ⌝ }
 {
@@ -76,7 +76,7 @@ fn spiral_angle(radius: u64, spiral: u64) -> u64
 }
 
 // x of the spiral of length one.
-fn unit_x(t: u64) -> u64
+pub(crate) fn unit_x(t: u64) -> u64
     requires { ⌜ t ≤ 500000000 ⌝ }
     ensures { λ r. ⌜ (pos r ≡ unitX t) × (r ≤ 1000000000) ⌝ }
 {
@@ -86,7 +86,7 @@ fn unit_x(t: u64) -> u64
 }
 
 // y of the spiral of length one.
-fn unit_y(t: u64) -> u64
+pub(crate) fn unit_y(t: u64) -> u64
     requires { ⌜ t ≤ 500000000 ⌝ }
     ensures { λ r. ⌜ (pos r ≡ unitY t) × (r ≤ 166666666) ⌝ }
 {
@@ -154,7 +154,7 @@ fn elements_of(deflection: u64, radius: u64, spiral: u64, arc: u64) -> Elements
 // The elements of a curve in range, or refusal 14.
 fn elements_or_short(deflection: u64, radius: u64, spiral: u64) -> ElementAnswer
     requires { ⌜ CurveInRange deflection radius spiral ⌝ }
-    ensures { λ a. ⌜ replyOf a ≡ replyTo (outcome (arcCheck deflection radius spiral 0)) (valuesBy deflection radius spiral) ⌝ }
+    ensures { λ a. ⌜ replyOf a ≡ reply (arcCheck deflection radius spiral 0) (valuesBy deflection radius spiral) ⌝ }
 {
     let turn = micrometres(radius, full_angle(deflection));
     let spirals = 1000 * spiral;

@@ -5,4 +5,5 @@ pub mod InOrder
 pub mod Numbers
 pub mod Filled
 pub mod FillWays
+pub mod Replied
 pub mod Examples

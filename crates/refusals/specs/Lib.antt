@@ -3,3 +3,4 @@ pub mod Table
 pub mod Outcomes
 pub mod Order
 pub mod Filling
+pub mod Replying

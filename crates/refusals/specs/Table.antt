@@ -1,7 +1,7 @@
 -- Document 01's "Refusal table": the number and the place of each refusal.
 use Prim.Native.Nat.{ℕ}
 use Rattle.refusals.specs.declared.Refusal.{Refusal}
-use Rattle.refusals.specs.declared.Refusal.the-variants.{Truncated, Edition, CurveCount, Speed, Crossfall, Start, Trailing, Distance, Deflection, Radius, Spiral, LeastRadius, LeastSpiral, ShortArc, ShortStraight, SmallBuffer}
+use Rattle.refusals.specs.declared.Refusal.the-variants.{Truncated, Edition, CurveCount, Speed, Crossfall, Start, Trailing, Distance, Deflection, Radius, Spiral, LeastRadius, LeastSpiral, ShortArc, ShortStraight, SmallBuffer, Station}
 
 -- "Refusal table", the column No.
 abbrev pub numberOf : Refusal → ℕ
@@ -21,6 +21,7 @@ numberOf (LeastSpiral curve) = 13
 numberOf (ShortArc curve) = 14
 numberOf (ShortStraight index) = 15
 numberOf SmallBuffer = 16
+numberOf Station = 17
 
 -- "the index of the distance (0 to n) for 8 and 15, the curve (1 to n) for 9 to 14, else 0"
 abbrev pub placeOf : Refusal → ℕ
@@ -40,3 +41,4 @@ placeOf (LeastSpiral curve) = curve
 placeOf (ShortArc curve) = curve
 placeOf (ShortStraight index) = index
 placeOf SmallBuffer = 0
+placeOf Station = 0

@@ -1,4 +1,4 @@
-// The refusals of document 01's table, by name with their places, and the verdict of a check.
+// The refusals of document 01's table, which document 02's numbers join, by name with their places, and the verdict of a check.
 ghost use mathlib.Core.Path.{_≡_};
 ghost use Rattle.refusals.specs.Table.{numberOf, placeOf};
 ghost use Rattle.refusals.specs.Outcomes.{outcomeOf, need, _▹_};
@@ -37,6 +37,8 @@ pub enum Refusal {
     ShortStraight(u16),
     // 16: the caller's buffer is too small.
     SmallBuffer,
+    // 17: the station is outside the line.
+    Station,
 }
 
 // What a call that fills a caller's buffer answers: how many entries it wrote at the buffer's front, or why it wrote none.
@@ -73,6 +75,7 @@ impl Refusal {
             Refusal::ShortArc(_) => 14,
             Refusal::ShortStraight(_) => 15,
             Refusal::SmallBuffer => 16,
+            Refusal::Station => 17,
         }
     }
 
@@ -97,6 +100,7 @@ impl Refusal {
             Refusal::ShortArc(curve) => curve,
             Refusal::ShortStraight(index) => index,
             Refusal::SmallBuffer => 0,
+            Refusal::Station => 0,
         }
     }
 }

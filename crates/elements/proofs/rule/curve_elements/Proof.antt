@@ -1,8 +1,10 @@
 -- `curve_elements`: a refusal of 9 to 11 is handed on; a curve that passes is in range. Assumes nothing.
 use mathlib.Core.Path.{sym, _∙_, ap}
 use Rattle.refusals.specs.Outcomes.{outcomeOf}
+use Rattle.refusals.proofs.Replied.{first-refused, first-passed}
+use Rattle.line.specs.Checks.{curveChecks}
 use Rattle.line.proofs.InRange.{curve-in-range}
-use Rattle.elements.proofs.Computed.{reply-refused, reply-passed}
+use Rattle.elements.specs.Answer.{valuesBy, arcCheck, elementChecks, elementReply}
 use borrow.Author.Needs.{needs}
 use Rattle.elements.proofs.rule.curve_elements.Statement.{statement}
 use Rattle.elements.proofs.rule.curve_elements.Tie as tie
@@ -21,11 +23,17 @@ elements-or-short-requires c κs =
     curve-in-range _ _ _ 0 (sym (c .before .before .check-curve .ensures) ∙ ap outcomeOf (c .enum-told .given .1))
 
 returns : tie.Need-returns
-returns c = reply-refused _ _ _ (c .before .before .before .check-curve .ensures) (c .before .verdict .given .1)
+unfolding elementReply elementChecks
+returns c =
+    let start = c .before .before .before .before .args in
+    first-refused (curveChecks (start .deflection) (start .radius) (start .spiral) 0) (arcCheck (start .deflection) (start .radius) (start .spiral) 0) (valuesBy (start .deflection) (start .radius) (start .spiral)) (c .before .before .before .check-curve .ensures) (c .before .verdict .given .1)
 
 returns-2 : tie.Need-returns-2
+unfolding elementReply elementChecks
 returns-2 c =
-    c .elements-or-short .ensures ∙ reply-passed _ _ _ (c .before .before .before .check-curve .ensures) (c .before .enum-told .given .1)
+    let start = c .before .before .before .before .args in
+    c .elements-or-short .ensures
+    ∙ first-passed (curveChecks (start .deflection) (start .radius) (start .spiral) 0) (arcCheck (start .deflection) (start .radius) (start .spiral) 0) (valuesBy (start .deflection) (start .radius) (start .spiral)) (c .before .before .before .check-curve .ensures) (c .before .enum-told .given .1)
 
 pub curve-elements-spec : {M : Type 1} → statement M
 curve-elements-spec =

@@ -1,8 +1,8 @@
 -- `elements_or_short`: D reaches 1,000 exactly where the turn reaches the spirals and 1,000. Assumes nothing.
-use mathlib.Core.Path.{sym, _∙_, ap}
+use mathlib.Core.Path.{refl, _∙_}
 use native.Mathlib.Omega.{arith}
-use Rattle.refusals.specs.Outcomes.{Outcome}
-use Rattle.elements.specs.Answer.{replyTo, valuesBy}
+use Rattle.refusals.proofs.Replied.{passed-reply, refused-reply}
+use Rattle.elements.specs.Answer.{valuesBy, arcCheck}
 use Rattle.elements.proofs.Arc.{computed-D, short-arc, long-arc}
 use borrow.Author.Needs.{needs}
 use Rattle.elements.proofs.rule.elements_or_short.Statement.{statement}
@@ -23,8 +23,8 @@ add-if1 c = search needs
 returns : tie.Need-returns
 returns c =
     let start = c .before .before .before in
-    ap (λ (o : Outcome). replyTo o (valuesBy (start .args .deflection) (start .args .radius) (start .args .spiral)))
-    (sym (short-arc (start .args .deflection) (start .args .radius) (start .args .spiral) (c .before .before .full-angle .ensures .0) (c .before .micrometres .ensures) 0 (c .if1 .taken)))
+    refused-reply (arcCheck (start .args .deflection) (start .args .radius) (start .args .spiral) 0) (valuesBy (start .args .deflection) (start .args .radius) (start .args .spiral))
+    (short-arc (start .args .deflection) (start .args .radius) (start .args .spiral) (c .before .before .full-angle .ensures .0) (c .before .micrometres .ensures) 0 (c .if1 .taken))
 
 sub-elements-of : tie.Need-sub-elements-of
 sub-elements-of c = search needs
@@ -38,8 +38,8 @@ returns-2 : tie.Need-returns-2
 returns-2 c =
     let start = c .before .before .before .before in
     c .elements-of .ensures
-    ∙ ap (λ (o : Outcome). replyTo o (valuesBy (start .args .deflection) (start .args .radius) (start .args .spiral)))
-    (sym (long-arc (start .args .deflection) (start .args .radius) (start .args .spiral) (c .before .before .before .full-angle .ensures .0) (c .before .before .micrometres .ensures) 0 (c .before .if1 .left)))
+    ∙ passed-reply (arcCheck (start .args .deflection) (start .args .radius) (start .args .spiral) 0) (valuesBy (start .args .deflection) (start .args .radius) (start .args .spiral))
+    (long-arc (start .args .deflection) (start .args .radius) (start .args .spiral) (c .before .before .before .full-angle .ensures .0) (c .before .before .micrometres .ensures) 0 (c .before .if1 .left)) refl
 
 pub elements-or-short-spec : {M : Type 1} → statement M
 elements-or-short-spec =

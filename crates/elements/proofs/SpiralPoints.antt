@@ -1,0 +1,80 @@
+-- The points of a spiral: the ranges of what is computed for one, and its two ends: at the outer end both offsets are 0, at the inner end they
+-- are X and Y of the element call. Assumes nothing.
+use mathlib.Core.Path.{_≡_, refl, sym, _∙_, ap}
+use Prim.Native.Nat.{ℕ, zero, suc, _*_, _/_, _≤_, _<_}
+use native.Mathlib.Nat.{mul-le-mul, mul-div-cancel, mul-div-cancel-left, mul-div-mul-left, div-le-of-le-mul, mul-assoc, zero-mul, zero-div}
+use native.Mathlib.Omega.{arith}
+use lib.IntN.{ℤ, pos, negsuc, _*ℤ_}
+use Rattle.numbers.specs.Whole.{Between}
+use Rattle.numbers.proofs.Products.{products}
+use Rattle.numbers.proofs.Ranges.{natural, product-between}
+use Rattle.elements.specs.WorkingRule.{scale, rounded, spiralAngle, unitX, unitY, spiralX, spiralY}
+use Rattle.elements.specs.SpiralPoint.{partTo, angleTo, offsetX, offsetY, Offsets, offsetsBy}
+use Rattle.elements.proofs.Rounding.{rounded-between}
+use Rattle.elements.proofs.Bounds.{spiral-angle-most}
+use Rattle.elements.proofs.UnitSpiral.{greatestSpiralAngle, unitX-between, unitY-between}
+
+-- ---- the part of the spiral and the angle
+
+pub part-most : (L l : ℕ) → l ≤ 1000 * L → partTo L l ≤ scale
+unfolding partTo
+part-most L l h = div-le-of-le-mul L (omega arith)
+
+-- Of a part that is no greater than one.
+pub square-most : (u : ℕ) → u ≤ scale → u * u / scale ≤ scale
+square-most u h = div-le-of-le-mul scale (mul-le-mul h h)
+
+pub angle-most : (R L l : ℕ) → L ≤ R → l ≤ 1000 * L → angleTo R L l ≤ greatestSpiralAngle
+unfolding angleTo
+angle-most R L l r h =
+    div-le-of-le-mul scale (mul-le-mul (square-most (partTo L l) (part-most L l h)) (spiral-angle-most R L r))
+
+module _ (R L l : ℕ) (r : L ≤ R) (h : l ≤ 1000 * L) (most : L ≤ 500000) where
+  -- The offsets are not below zero, and a spiral is 500 m at the most.
+  pub x-between : Between (offsetX R L l) 0 500000000
+  unfolding offsetX
+  x-between =
+      rounded-between scale 500000000
+      (product-between (natural l {least = 0} {most = 500000000} (omega arith) (omega arith)) (unitX-between (angleTo R L l) (angle-most R L l r h)))
+      (omega arith)
+
+  pub y-between : Between (offsetY R L l) 0 83333333
+  unfolding offsetY
+  y-between =
+      rounded-between scale 83333333
+      (product-between (natural l {least = 0} {most = 500000000} (omega arith) (omega arith)) (unitY-between (angleTo R L l) (angle-most R L l r h)))
+      (omega arith)
+
+-- ---- the outer end
+
+nothing : (z : ℤ) (m : ℕ) → rounded (pos 0 *ℤ z) m ≡ pos 0
+unfolding rounded
+nothing (pos n) m = ap pos (rw (zero-mul n) (zero-div m))
+nothing (negsuc n) m = rw (zero-mul (suc n)) (ap pos (zero-div m))
+
+pub at-outer-end : (R L : ℕ) → offsetsBy R L 0 ≡ record { x = pos 0; y = pos 0 }
+unfolding offsetsBy offsetX offsetY
+at-outer-end R L = rw (nothing (unitX (angleTo R L 0)) scale, nothing (unitY (angleTo R L 0)) scale)
+
+-- ---- the inner end
+
+whole-angle : (R L : ℕ) → zero < L → angleTo R L (1000 * L) ≡ spiralAngle R L
+unfolding angleTo partTo
+whole-angle R L above =
+    let whole : 1000 * L * 1000000 / L ≡ scale = ap (λ (n : ℕ). n / L) (let e : 1000 * L * 1000000 ≡ scale * L = omega arith in e) ∙ mul-div-cancel scale above in
+    rw whole (mul-div-cancel-left (spiralAngle R L) (omega arith))
+
+-- A length in µm over 10⁹ is one in mm over 10⁶.
+same-rounding : {z : ℤ} {least most : ℕ} (L : ℕ) → Between z least most → rounded (pos (1000 * L) *ℤ z) scale ≡ rounded (pos L *ℤ z) 1000000
+unfolding rounded
+same-rounding L b =
+    let cut : 1000 * L * b .value / (1000 * 1000000) ≡ L * b .value / 1000000 = rw (mul-assoc 1000 L (b .value)) (mul-div-mul-left (L * b .value) 1000000 (omega arith)) in
+    rw (b .same) (ap pos cut)
+
+pub at-inner-end : (R L : ℕ) → L ≤ R → offsetsBy R L (1000 * L) ≡ record { x = spiralX R L; y = spiralY R L }
+unfolding offsetsBy offsetX offsetY spiralX spiralY
+at-inner-end R zero h =
+    at-outer-end R 0 ∙ sym (rw (nothing (unitX (spiralAngle R 0)) 1000000, nothing (unitY (spiralAngle R 0)) 1000000))
+at-inner-end R (suc L) h =
+    let most = spiral-angle-most R (suc L) h in
+    rw (whole-angle R (suc L) (omega arith), same-rounding (suc L) (unitX-between (spiralAngle R (suc L)) most), same-rounding (suc L) (unitY-between (spiralAngle R (suc L)) most))

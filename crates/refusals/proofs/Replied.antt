@@ -1,0 +1,61 @@
+-- What the answer of a call that answers a value says of its checks, and what such a call answers on each way out. Assumes nothing.
+use mathlib.Core.Path.{_≡_, refl, sym, _∙_, ap}
+use Prim.Native.Nat.{ℕ}
+use native.Mathlib.Omega.{arith}
+use Rattle.refusals.specs.declared.Refusal.{Refusal}
+use Rattle.refusals.specs.declared.Verdict.{Verdict}
+use Rattle.refusals.specs.declared.Verdict.the-variants.{Pass, Refused}
+use Rattle.refusals.specs.Table.{numberOf, placeOf}
+use Rattle.refusals.specs.Outcomes.{Outcome, passed, refused, outcomeOf, _▹_}
+use Rattle.refusals.specs.Order.{Checks, _⨾_, outcome}
+use Rattle.refusals.specs.Replying.{Reply, answered, declined, replyTo, reply}
+
+module _ {A : Type 0} where
+  -- No answer is both.
+  pub never-both : {B : Type 0} (v : A) (n p : ℕ) → answered v ≡ declined n p → B
+  never-both v n p e = let z : _≡_ {A = ℕ} 0 1 = cc in absurd (omega arith)
+
+  same-value : (v w : A) → answered v ≡ answered w → v ≡ w
+  same-value v w e = cc
+
+  -- A value: every check passed, and it is the call's.
+  passed-by : (o : Outcome) (w : A) {v : A} → answered v ≡ replyTo o w → (o ≡ passed) × (v ≡ w)
+  passed-by passed w {v} e = (refl, same-value v w e)
+  passed-by (refused n p) w {v} e = never-both v n p e
+
+  -- A refusal: it is the checks'.
+  refused-by : (o : Outcome) (w : A) {n p : ℕ} → declined n p ≡ replyTo o w → o ≡ refused n p
+  refused-by passed w {n} {p} e = never-both w n p (sym e)
+  refused-by (refused m k) w {n} {p} e =
+      let number : m ≡ n = cc in
+      let place : k ≡ p = cc in
+      λ j. refused (number j) (place j)
+
+  module _ (checks : Checks) (value : A) where
+    pub replied : {v : A} → answered v ≡ reply checks value → (outcome checks ≡ passed) × (v ≡ value)
+    unfolding reply
+    replied e = passed-by (outcome checks) value e
+
+    pub unreplied : {n p : ℕ} → declined n p ≡ reply checks value → outcome checks ≡ refused n p
+    unfolding reply
+    unreplied e = refused-by (outcome checks) value e
+
+    -- ---- the ways out
+
+    pub passed-reply : {v : A} → outcome checks ≡ passed → v ≡ value → answered v ≡ reply checks value
+    unfolding reply
+    passed-reply e q = rw e (ap answered q)
+
+    pub refused-reply : {n p : ℕ} → outcome checks ≡ refused n p → declined n p ≡ reply checks value
+    unfolding reply
+    refused-reply e = rw e
+
+  -- The first of two parts refuses, or passes and the second decides.
+  module _ (a b : Checks) (value : A) {v : Verdict} (h : outcomeOf v ≡ outcome a) where
+    pub first-refused : {r : Refusal} → v ≡ Refused r → declined (numberOf r) (placeOf r) ≡ reply (a ⨾ b) value
+    unfolding reply
+    first-refused {r} q = rw (← h, q)
+
+    pub first-passed : v ≡ Pass → reply b value ≡ reply (a ⨾ b) value
+    unfolding reply
+    first-passed q = rw (← h, q)
