@@ -1,8 +1,14 @@
 // The lengths of a line's straights and arcs, in µm, with the calculator's checks 3 to 15.
 ghost use mathlib.Core.Path.{_≡_};
+ghost use Prim.Native.Nat.{suc};
+ghost use Rattle.refusals.specs.Table.{numberOf, placeOf};
+ghost use Rattle.refusals.specs.Outcomes.{refused, outcomeOf};
+ghost use Rattle.refusals.specs.Order.{_⨾_, inTurn, outcome};
 ghost use Rattle.line.specs.Ranges.{LineInRange};
-ghost use Rattle.stationing.specs.Arrays.{TangentsTo};
-ghost use Rattle.calculator.specs.Lengths.{CurvesOf, StraightsOf, LengthsOf};
+ghost use Rattle.stationing.specs.Answer.{designChecksAt, straightCheck, alignmentChecks};
+ghost use Rattle.stationing.specs.Arrays.{TangentsTo, ArcsTo};
+ghost use Rattle.calculator.specs.Lengths.{noLengths, lengthsOf, lengthsBy, lengthsAfter, LengthsChecked, CurvesOf};
+use crate::LineLengths;
 use crate::tables::check_least;
 use elements::ElementAnswer;
 use elements::curve_elements;
@@ -17,13 +23,6 @@ struct CurveLengths {
     // One entry more than there can be curves: no tangent follows the last distance.
     tangents: [u64; 65],
     arcs: [u64; 64],
-}
-
-// The straights and the arcs of a line; beside a refusal they mean nothing.
-pub(crate) struct Lengths {
-    pub verdict: Verdict,
-    pub straights: [u64; 65],
-    pub arcs: [u64; 64],
 }
 
 // Refusals 12, 13 and 14, curve by curve, and the lengths of each curve, whose elements are computed once.
@@ -73,14 +72,25 @@ fn curve_lengths(line: Line) -> CurveLengths
     }
 }
 
+// A refusal, with no lengths.
+fn no_lengths(refusal: Refusal) -> LineLengths
+    ensures { λ l. ⌜ outcomeOf (l .verdict) ≡ refused (numberOf refusal) (placeOf refusal) ⌝ }
+    ensures { λ l. ⌜ lengthsOf l ≡ noLengths ⌝ }
+{
+    LineLengths {
+        verdict: Verdict::Refused(refusal),
+        straights: [0; 65],
+        arcs: [0; 64],
+    }
+}
+
 // Refusal 15, by ascending distance, and the straights: each distance less the tangents of the curves at its ends.
-fn with_straights(line: Line, curves: CurveLengths) -> Lengths
+fn with_straights(line: Line, curves: CurveLengths) -> LineLengths
     requires { ⌜ LineInRange line ⌝ }
-    requires { ⌜ TangentsTo line (line .count) (curves .tangents) ⌝ }
-    ensures { λ l. ⌜ StraightsOf line curves l ⌝ }
+    requires { ⌜ TangentsTo line (line .count) (curves .tangents) × ArcsTo line (line .count) (curves .arcs) ⌝ }
+    ensures { λ l. ⌜ LengthsChecked (inTurn (straightCheck line) (suc (line .count))) line l ⌝ }
 {
     let n = line.count;
-    let arcs = curves.arcs;
     let mut straights: [u64; 65] = [0; 65];
     let mut before: u64 = 0;
     let mut i = 0;
@@ -89,46 +99,42 @@ fn with_straights(line: Line, curves: CurveLengths) -> Lengths
         let distance = 1000 * (line.distances[i] as u64);
         let ends = before + after;
         if distance < ends + 1000 {
-            return Lengths {
-                verdict: Verdict::Refused(Refusal::ShortStraight(i as u16)),
-                straights,
-                arcs,
-            };
+            return no_lengths(Refusal::ShortStraight(i as u16));
         }
         straights[i] = distance - ends;
         before = after;
         i += 1;
     }
-    Lengths {
+    LineLengths {
         verdict: Verdict::Pass,
         straights,
-        arcs,
+        arcs: curves.arcs,
     }
 }
 
-// A refusal, with no lengths.
-fn no_lengths(verdict: Verdict) -> Lengths
-    ensures { λ l. ⌜ l .verdict ≡ verdict ⌝ }
+// Refusals 12 to 15 of a line whose fields are in range, and its lengths.
+fn lengths_in_range(line: Line) -> LineLengths
+    requires { ⌜ LineInRange line ⌝ }
+    ensures { λ l. ⌜ LengthsChecked (inTurn (designChecksAt line) (line .count) ⨾ inTurn (straightCheck line) (suc (line .count))) line l ⌝ }
 {
-    Lengths {
-        verdict,
-        straights: [0; 65],
-        arcs: [0; 64],
-    }
-}
-
-// The calculator's checks 3 to 15, and the lengths of a line that passes them.
-pub(crate) fn lengths_of(line: Line) -> Lengths
-    ensures { λ l. ⌜ LengthsOf line l ⌝ }
-{
-    let fields = check_line(line);
-    let Verdict::Pass = fields else {
-        return no_lengths(fields);
-    };
     let curves = curve_lengths(line);
-    let designs = curves.verdict;
-    let Verdict::Pass = designs else {
-        return no_lengths(designs);
-    };
-    with_straights(line, curves)
+    let verdict = curves.verdict;
+    match verdict {
+        Verdict::Refused(refusal) => no_lengths(refusal),
+        Verdict::Pass => with_straights(line, curves),
+    }
+}
+
+// The lengths of a line's straights and arcs by document 01's working rule, in µm, beside the verdict of the calculator's checks: the first
+// refusal in the order 3 to 6, 8 to 11, then 12, 13, 14 curve by curve, then 15 by ascending distance. After a refusal, and in unused
+// entries, the lengths are 0. Any line is taken; unused entries and the sides of the curves change nothing.
+pub fn line_lengths(line: Line) -> LineLengths
+    ensures verdict { λ l. ⌜ outcomeOf (l .verdict) ≡ outcome (alignmentChecks line) ⌝ }
+    ensures lengths { λ l. ⌜ lengthsOf l ≡ lengthsAfter (outcome (alignmentChecks line)) (lengthsBy line) ⌝ }
+{
+    let verdict = check_line(line);
+    match verdict {
+        Verdict::Refused(refusal) => no_lengths(refusal),
+        Verdict::Pass => lengths_in_range(line),
+    }
 }

@@ -1,16 +1,17 @@
 // The row of stations, in µm, at the front of the caller's numbers.
 ghost use mathlib.Core.Path.{_≡_};
 ghost use mathlib.Core.List.{_++_};
-ghost use Prim.Native.Nat.{suc, _+_, _≤_};
+ghost use Prim.Native.Nat.{_+_, _≤_};
 ghost use lib.ListN.{length, take, drop};
 ghost use Rattle.refusals.specs.Outcomes.{passed};
 ghost use Rattle.refusals.specs.Filling.{fillReplyOf, fill};
 ghost use Rattle.refusals.specs.Order.{unchecked, outcome};
 ghost use Rattle.stationing.specs.Stations.{stationRow};
 ghost use Rattle.stationing.specs.Answer.{alignmentChecks, stationCount, stationsIn};
-ghost use Rattle.stationing.specs.Arrays.{StraightsTo, ArcsTo, fourFrom};
-use crate::lengths::Lengths;
-use crate::lengths::lengths_of;
+ghost use Rattle.stationing.specs.Arrays.{fourFrom};
+ghost use Rattle.calculator.specs.Lengths.{lengthsOf, lengthsBy};
+use crate::LineLengths;
+use crate::lengths::line_lengths;
 use line::Line;
 use refusals::FillAnswer;
 use refusals::Refusal;
@@ -35,9 +36,9 @@ fn store_curve(row: &mut [u64], at: usize, former: u64, straight: u64, spiral: u
 }
 
 // The stations of a line from its lengths.
-fn write_row(line: Line, lengths: Lengths, row: &mut [u64])
+fn write_row(line: Line, lengths: LineLengths, row: &mut [u64])
     requires { ⌜ outcome (alignmentChecks line) ≡ passed ⌝ }
-    requires { ⌜ StraightsTo line (suc (line .count)) (lengths .straights) × ArcsTo line (line .count) (lengths .arcs) ⌝ }
+    requires { ⌜ lengthsOf lengths ≡ lengthsBy line ⌝ }
     requires { ⌜ stationCount line ≤ length (now row) ⌝ }
     ensures { λ _. ⌜ now (row .exit) ≡ stationRow line ++ drop (stationCount line) (now (row .entry)) ⌝ }
 {
@@ -60,9 +61,9 @@ fn write_row(line: Line, lengths: Lengths, row: &mut [u64])
 }
 
 // Refusal 16, or the row of a line whose lengths are known.
-fn fill(line: Line, lengths: Lengths, row: &mut [u64]) -> FillAnswer
+fn fill(line: Line, lengths: LineLengths, row: &mut [u64]) -> FillAnswer
     requires { ⌜ outcome (alignmentChecks line) ≡ passed ⌝ }
-    requires { ⌜ StraightsTo line (suc (line .count)) (lengths .straights) × ArcsTo line (line .count) (lengths .arcs) ⌝ }
+    requires { ⌜ lengthsOf lengths ≡ lengthsBy line ⌝ }
     ensures { λ a. ⌜ fillReplyOf a ≡ fill unchecked (stationRow line) (now (row .entry)) .reply ⌝ }
     ensures { λ _. ⌜ now (row .exit) ≡ fill unchecked (stationRow line) (now (row .entry)) .buffer ⌝ }
 {
@@ -82,7 +83,7 @@ pub fn stations(line: Line, row: &mut [u64]) -> FillAnswer
     ensures answer { λ a. ⌜ fillReplyOf a ≡ stationsIn line (now (row .entry)) .reply ⌝ }
     ensures memory { λ _. ⌜ now (row .exit) ≡ stationsIn line (now (row .entry)) .buffer ⌝ }
 {
-    let lengths = lengths_of(line);
+    let lengths = line_lengths(line);
     let verdict = lengths.verdict;
     match verdict {
         Verdict::Refused(refusal) => FillAnswer::Refused(refusal),

@@ -1,14 +1,10 @@
 -- What the answer of a call that answers a value says of its checks, and what such a call answers on each way out. Assumes nothing.
-use mathlib.Core.Path.{_≡_, refl, sym, _∙_, ap}
+use mathlib.Core.Path.{_≡_, refl, sym, ap}
 use Prim.Native.Nat.{ℕ}
 use native.Mathlib.Omega.{arith}
-use Rattle.refusals.specs.declared.Refusal.{Refusal}
-use Rattle.refusals.specs.declared.Verdict.{Verdict}
-use Rattle.refusals.specs.declared.Verdict.the-variants.{Pass, Refused}
-use Rattle.refusals.specs.Table.{numberOf, placeOf}
-use Rattle.refusals.specs.Outcomes.{Outcome, passed, refused, outcomeOf, _▹_}
+use Rattle.refusals.specs.Outcomes.{Outcome, passed, refused}
 use Rattle.refusals.specs.Order.{Checks, _⨾_, outcome}
-use Rattle.refusals.specs.Replying.{Reply, answered, declined, replyTo, reply}
+use Rattle.refusals.specs.Replying.{answered, declined, replyTo, reply}
 
 module _ {A : Type 0} where
   -- No answer is both.
@@ -51,11 +47,11 @@ module _ {A : Type 0} where
     refused-reply e = rw e
 
   -- The first of two parts refuses, or passes and the second decides.
-  module _ (a b : Checks) (value : A) {v : Verdict} (h : outcomeOf v ≡ outcome a) where
-    pub first-refused : {r : Refusal} → v ≡ Refused r → declined (numberOf r) (placeOf r) ≡ reply (a ⨾ b) value
+  module _ (a b : Checks) (value : A) where
+    pub first-refused : {n p : ℕ} → outcome a ≡ refused n p → declined n p ≡ reply (a ⨾ b) value
     unfolding reply
-    first-refused {r} q = rw (← h, q)
+    first-refused e = rw e
 
-    pub first-passed : v ≡ Pass → reply b value ≡ reply (a ⨾ b) value
+    pub first-passed : outcome a ≡ passed → reply b value ≡ reply (a ⨾ b) value
     unfolding reply
-    first-passed q = rw (← h, q)
+    first-passed e = rw e

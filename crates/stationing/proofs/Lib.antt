@@ -8,4 +8,5 @@ pub mod RowSteps
 pub mod RowCount
 pub mod Accepted
 pub mod FormerST
+pub mod ElementsAndStations
 pub mod Examples

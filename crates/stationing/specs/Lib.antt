@@ -3,3 +3,4 @@ pub mod RoadTables
 pub mod Stations
 pub mod Answer
 pub mod Arrays
+pub mod LineElements

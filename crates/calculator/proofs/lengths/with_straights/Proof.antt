@@ -8,7 +8,6 @@ use borrow.Author.Needs.{needs}
 use Rattle.numbers.proofs.Ranges.{at-most}
 use Rattle.refusals.specs.Outcomes.{passed, firstOf}
 use Rattle.refusals.specs.Order.{inTurn, outcome}
-use Rattle.refusals.proofs.Joining.{not-both}
 use Rattle.refusals.proofs.InTurn.{one-more, first-refused}
 use Rattle.stationing.specs.Stations.{tangentBefore}
 use Rattle.stationing.specs.Answer.{straightCheck}
@@ -16,18 +15,19 @@ use Rattle.stationing.specs.Arrays.{StraightsTo}
 use Rattle.stationing.proofs.Accepted.{before-between, after-between}
 use Rattle.stationing.proofs.Fronts.{front-empty, front-more}
 use Rattle.stationing.proofs.StraightSteps.{after-distance, before-next, short-straight, long-straight, straight-length}
+use Rattle.calculator.proofs.LengthsKnown.{refused-lengths, whole-lengths}
 use Rattle.calculator.proofs.lengths.with_straights.Statement.{statement}
 use Rattle.calculator.proofs.lengths.with_straights.Tie as tie
 
 abbrev Inv-loop : tie.InvT-loop
-Inv-loop line curves n arcs straights₀ before₀ i₀ straights before i =
+Inv-loop line curves n straights₀ before₀ i₀ straights before i =
     (i ≤ n + 1)
     × (outcome (inTurn (straightCheck line) i) ≡ passed)
     × StraightsTo line i straights
     × (i ≤ n → pos before ≡ tangentBefore line i)
 
 abbrev μ-loop : tie.MeasureT-loop
-μ-loop line curves n arcs straights₀ before₀ i₀ straights before i = n + 1 - i
+μ-loop line curves n straights₀ before₀ i₀ straights before i = n + 1 - i
 
 loop-holds : tie.Need-loop-holds Inv-loop μ-loop
 unfolding firstOf tangentBefore
@@ -50,43 +50,43 @@ cast-distance c = search needs
 
 mul-distance-2 : tie.Need-mul-distance-2 Inv-loop μ-loop
 mul-distance-2 c =
-    omega (arith, c .before .before .before .before .before .pre .0 .distance-most (c .before .before .before .loop .i) (omega (arith, c .before .before .loop-test .taken)))
+    omega (arith, c .before .before .before .before .pre .0 .distance-most (c .before .before .before .loop .i) (omega (arith, c .before .before .loop-test .taken)))
 
 add-ends : tie.Need-add-ends Inv-loop μ-loop
 add-ends c =
-    let start = c .before .before .before .before .before in
+    let start = c .before .before .before .before in
     let loop = c .before .before .before .loop in
     let line = start .args .t1 in
     let here : loop .i ≤ line .count = omega (arith, c .before .before .loop-test .taken) in
     let before = at-most (loop .inv .3 here) (before-between line (start .pre .0) (loop .i) here) in
-    let after = at-most (after-distance line _ (start .pre .1) (loop .i) here) (after-between line (start .pre .0) (loop .i)) in
+    let after = at-most (after-distance line _ (start .pre .1 .0) (loop .i) here) (after-between line (start .pre .0) (loop .i)) in
     omega (arith, before, after)
 
 add-if1 : tie.Need-add-if1 Inv-loop μ-loop
 add-if1 c =
-    let start = c .before .before .before .before .before in
+    let start = c .before .before .before .before in
     let loop = c .before .before .before .loop in
     let line = start .args .t1 in
     let here : loop .i ≤ line .count = omega (arith, c .before .before .loop-test .taken) in
     let before = at-most (loop .inv .3 here) (before-between line (start .pre .0) (loop .i) here) in
-    let after = at-most (after-distance line _ (start .pre .1) (loop .i) here) (after-between line (start .pre .0) (loop .i)) in
+    let after = at-most (after-distance line _ (start .pre .1 .0) (loop .i) here) (after-between line (start .pre .0) (loop .i)) in
     omega (arith, before, after)
 
-cast-t21 : tie.Need-cast-t21 Inv-loop μ-loop
-cast-t21 c = search needs
+cast-t20 : tie.Need-cast-t20 Inv-loop μ-loop
+cast-t20 c = search needs
+
+no-lengths-requires : tie.Need-no-lengths-requires Inv-loop μ-loop
+no-lengths-requires c κs = tt
 
 returns : tie.Need-returns Inv-loop μ-loop
 returns c =
     let start = c .before .before .before .before .before .before in
-    let loop = c .before .before .before .before .loop in
+    let loop = c .before .before .before .before .before .loop in
     let line = start .args .t1 in
-    let here : loop .i ≤ line .count = omega (arith, c .before .before .before .loop-test .taken) in
-    let short = short-straight line (loop .i) (loop .inv .3 here) (after-distance line _ (start .pre .1) (loop .i) here) (c .if1 .taken) in
-    record {
-      outcome = sym (first-refused (straightCheck line) (loop .i) (suc (line .count)) (omega arith) (loop .inv .1) short);
-      straights = λ e. not-both refl e;
-      arcs = refl;
-    }
+    let here : loop .i ≤ line .count = omega (arith, c .before .before .before .before .loop-test .taken) in
+    let short = short-straight line (loop .i) (loop .inv .3 here) (after-distance line _ (start .pre .1 .0) (loop .i) here) (c .before .if1 .taken) in
+    refused-lengths line (inTurn (straightCheck line) (suc (line .count))) (c .no-lengths .result) (c .no-lengths .ensures .0) (c .no-lengths .ensures .1)
+    (first-refused (straightCheck line) (loop .i) (suc (line .count)) (omega arith) (loop .inv .1) short)
 
 sub-straights : tie.Need-sub-straights Inv-loop μ-loop
 sub-straights c = search needs
@@ -105,28 +105,28 @@ loop-less c = search needs
 
 loop-again : tie.Need-loop-again Inv-loop μ-loop
 loop-again c =
-    let start = c .before .before .before .before .before .before in
+    let start = c .before .before .before .before .before in
     let loop = c .before .before .before .before .loop in
     let line = start .args .t1 in
     let here : loop .i ≤ line .count = omega (arith, c .before .before .before .loop-test .taken) in
     let before = loop .inv .3 here in
-    let after = after-distance line _ (start .pre .1) (loop .i) here in (
+    let after = after-distance line _ (start .pre .1 .0) (loop .i) here in (
       search needs,
       one-more (straightCheck line) (loop .i) (loop .inv .1) (long-straight line (loop .i) before after (c .if1 .left)),
       front-more (loop .i) _ (loop .inv .2) (omega (arith, start .pre .0 .few)) (straight-length line (loop .i) before after (omega (arith, c .if1 .left))),
-      before-next line _ (start .pre .1) (loop .i),
+      before-next line _ (start .pre .1 .0) (loop .i),
     )
 
 returns-2 : tie.Need-returns-2 Inv-loop μ-loop
 returns-2 c =
-    let line = c .before .before .before .args .t1 in
-    let loop = c .before .loop in
+    let start = c .before .before .before in
+    let line = start .args .t1 in
+    let loop = c .before .before .loop in
     let all : loop .i ≡ suc (line .count) = omega arith in
-    record {
-      outcome = sym (loop .inv .1) ∙ ap (λ (n : ℕ). outcome (inTurn (straightCheck line) n)) all;
-      straights = λ e. subst (λ (i : ℕ). StraightsTo line i (loop .straights)) all (loop .inv .2);
-      arcs = refl;
-    }
+    whole-lengths line (inTurn (straightCheck line) (suc (line .count))) _ _ (start .pre .0 .few)
+    (subst (λ (i : ℕ). StraightsTo line i (loop .straights)) all (loop .inv .2))
+    (start .pre .1 .1)
+    (sym (ap (λ (n : ℕ). outcome (inTurn (straightCheck line) n)) all) ∙ loop .inv .1)
 
 pub with-straights-spec : {M : Type 1} → statement M
 with-straights-spec =
@@ -143,7 +143,8 @@ with-straights-spec =
     mul-distance-2
     add-ends
     add-if1
-    cast-t21
+    cast-t20
+    no-lengths-requires
     returns
     sub-straights
     mul-straights

@@ -11,6 +11,7 @@ use Rattle.stationing.specs.Stations.{spiralAt, formerST, curveStations}
 use Rattle.stationing.proofs.Accepted.{accepted, few}
 use Rattle.stationing.proofs.FormerST.{former-between}
 use Rattle.stationing.proofs.RowSteps.{numbersTo, next-ST, curve-stored, end-stored}
+use Rattle.calculator.proofs.LengthsKnown.{known-straight, known-arc}
 use Rattle.calculator.proofs.row.write_row.Statement.{statement}
 use Rattle.calculator.proofs.row.write_row.Tie as tie
 
@@ -75,8 +76,8 @@ store-curve-requires c κs =
     let line = start .args .t1 in
     let ok = accepted line (start .pre .0) in
     let former = at-most (loop .inv .2) (former-between line ok (loop .i) (omega (arith, here))) in
-    let straight = at-most (start .pre .1 .0 .0 .used (loop .i) (omega (arith, here))) (ok .straight (loop .i) (omega (arith, here))) in
-    let arc = at-most (start .pre .1 .0 .1 .used (loop .i) here) (ok .arc (loop .i) here) in (
+    let straight = at-most (known-straight line (start .args .t2) (few line (start .pre .0)) (start .pre .1 .0) (loop .i) (omega (arith, here))) (ok .straight (loop .i) (omega (arith, here))) in
+    let arc = at-most (known-arc line (start .args .t2) (few line (start .pre .0)) (start .pre .1 .0) (loop .i) here) (ok .arc (loop .i) here) in (
       omega (arith, loop .inv .1, start .pre .1 .1, here),
       (omega (arith, former, ok .in-range .few, here), straight, omega (arith, ok .in-range .curve (loop .i) here .L-most), arc),
     )
@@ -95,8 +96,8 @@ loop-again c =
     let here = c .before .before .before .before .before .before .loop-test .taken in
     let stored = c .before .before .store-curve in
     let line = start .args .t1 in
-    let straight = start .pre .1 .0 .0 .used (loop .i) (omega (arith, here)) in
-    let arc = start .pre .1 .0 .1 .used (loop .i) here in
+    let straight = known-straight line (start .args .t2) (few line (start .pre .0)) (start .pre .1 .0) (loop .i) (omega (arith, here)) in
+    let arc = known-arc line (start .args .t2) (few line (start .pre .0)) (start .pre .1 .0) (loop .i) here in
     let room = start .pre .1 .1 in (
       search needs,
       stored .kept .0 ∙ loop .inv .1,
@@ -119,7 +120,7 @@ add-row c =
     let ok = accepted line (start .pre .0) in
     let all : loop .i ≡ line .count = omega arith in
     let former = at-most (loop .inv .2) (former-between line ok (loop .i) (omega arith)) in
-    let straight = at-most (start .pre .1 .0 .0 .used (line .count) (omega arith)) (ok .straight (line .count) (omega arith)) in
+    let straight = at-most (known-straight line (start .args .t2) (few line (start .pre .0)) (start .pre .1 .0) (line .count) (omega arith)) (ok .straight (line .count) (omega arith)) in
     omega (arith, former, straight, ok .in-range .few)
 
 mul-row-2 : tie.Need-mul-row-2 Inv-loop μ-loop
@@ -140,7 +141,7 @@ returns c =
     let loop = c .before .before .loop in
     let line = start .args .t1 in
     let all : loop .i ≡ line .count = omega arith in
-    end-stored line (loop .inv .2 ∙ ap (formerST line) all) (start .pre .1 .0 .0 .used (line .count) (omega arith)) (start .args .row .now) (loop .row) (start .pre .1 .1)
+    end-stored line (loop .inv .2 ∙ ap (formerST line) all) (known-straight line (start .args .t2) (few line (start .pre .0)) (start .pre .1 .0) (line .count) (omega arith)) (start .args .row .now) (loop .row) (start .pre .1 .1)
     (loop .inv .3 ∙ ap (λ (i : ℕ). numbersTo line i ++ drop (4 * i) (start .args .row .now)) all)
 
 pub write-row-spec : {M : Type 1} → statement M

@@ -28,7 +28,7 @@ unfolding pointReply pointChecks
 returns c =
     let start = c .before .before .before .before .args in
     first-refused (curveChecks 1 (start .radius) (start .spiral) 0) (insideCheck (start .spiral) (start .length)) (offsetsBy (start .radius) (start .spiral) (start .length))
-    (c .before .before .before .check-curve .ensures) (c .before .verdict .given .1)
+    (sym (c .before .before .before .check-curve .ensures) ∙ ap outcomeOf (c .before .verdict .given .1))
 
 returns-2 : tie.Need-returns-2
 unfolding pointReply pointChecks
@@ -36,7 +36,7 @@ returns-2 c =
     let start = c .before .before .before .before .args in
     c .point-or-outside .ensures
     ∙ first-passed (curveChecks 1 (start .radius) (start .spiral) 0) (insideCheck (start .spiral) (start .length)) (offsetsBy (start .radius) (start .spiral) (start .length))
-    (c .before .before .before .check-curve .ensures) (c .before .enum-told .given .1)
+    (sym (c .before .before .before .check-curve .ensures) ∙ ap outcomeOf (c .before .enum-told .given .1))
 
 pub spiral-point-spec : {M : Type 1} → statement M
 spiral-point-spec =

@@ -26,14 +26,14 @@ returns : tie.Need-returns
 unfolding elementReply elementChecks
 returns c =
     let start = c .before .before .before .before .args in
-    first-refused (curveChecks (start .deflection) (start .radius) (start .spiral) 0) (arcCheck (start .deflection) (start .radius) (start .spiral) 0) (valuesBy (start .deflection) (start .radius) (start .spiral)) (c .before .before .before .check-curve .ensures) (c .before .verdict .given .1)
+    first-refused (curveChecks (start .deflection) (start .radius) (start .spiral) 0) (arcCheck (start .deflection) (start .radius) (start .spiral) 0) (valuesBy (start .deflection) (start .radius) (start .spiral)) (sym (c .before .before .before .check-curve .ensures) ∙ ap outcomeOf (c .before .verdict .given .1))
 
 returns-2 : tie.Need-returns-2
 unfolding elementReply elementChecks
 returns-2 c =
     let start = c .before .before .before .before .args in
     c .elements-or-short .ensures
-    ∙ first-passed (curveChecks (start .deflection) (start .radius) (start .spiral) 0) (arcCheck (start .deflection) (start .radius) (start .spiral) 0) (valuesBy (start .deflection) (start .radius) (start .spiral)) (c .before .before .before .check-curve .ensures) (c .before .enum-told .given .1)
+    ∙ first-passed (curveChecks (start .deflection) (start .radius) (start .spiral) 0) (arcCheck (start .deflection) (start .radius) (start .spiral) 0) (valuesBy (start .deflection) (start .radius) (start .spiral)) (sym (c .before .before .before .check-curve .ensures) ∙ ap outcomeOf (c .before .enum-told .given .1))
 
 pub curve-elements-spec : {M : Type 1} → statement M
 curve-elements-spec =

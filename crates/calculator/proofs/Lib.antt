@@ -1,0 +1,2 @@
+-- Laws of a line's lengths.
+pub mod LengthsKnown
