@@ -7,9 +7,20 @@ use native.Mathlib.Omega.{arith}
 use lib.IntN.{ℤ, pos, negsuc, _*ℤ_}
 use Rattle.numbers.specs.Whole.{Between}
 use Rattle.numbers.proofs.Products.{products}
-use Rattle.numbers.proofs.Ranges.{natural, product-between}
+use Rattle.numbers.proofs.Ranges.{at-most, natural, product-between}
+use borrow.Author.Tests.{le-leb}
+use Rattle.refusals.specs.declared.Refusal.{Refusal}
+use Rattle.refusals.specs.Table.{numberOf, placeOf}
+use Rattle.refusals.specs.Outcomes.{passed}
+use Rattle.refusals.specs.Order.{outcome}
+use Rattle.refusals.proofs.Joining.{never}
+use Rattle.refusals.proofs.Replied.{replied, unreplied}
+use Rattle.line.specs.Ranges.{CurveInRange}
+use Rattle.line.proofs.InRange.{curve-passes}
+use Rattle.elements.specs.declared.SpiralPoint.{SpiralPoint}
+use Rattle.elements.specs.declared.PointAnswer.the-variants.{Found, Refused}
 use Rattle.elements.specs.WorkingRule.{scale, rounded, spiralAngle, unitX, unitY, spiralX, spiralY}
-use Rattle.elements.specs.SpiralPoint.{partTo, angleTo, offsetX, offsetY, Offsets, offsetsBy}
+use Rattle.elements.specs.SpiralPoint.{partTo, angleTo, offsetX, offsetY, Offsets, offsetsBy, pointReplyOf, insideCheck, pointChecks, pointReply}
 use Rattle.elements.proofs.Rounding.{rounded-between}
 use Rattle.elements.proofs.Bounds.{spiral-angle-most}
 use Rattle.elements.proofs.UnitSpiral.{greatestSpiralAngle, unitX-between, unitY-between}
@@ -78,3 +89,35 @@ at-inner-end R zero h =
 at-inner-end R (suc L) h =
     let most = spiral-angle-most R (suc L) h in
     rw (whole-angle R (suc L) (omega arith), same-rounding (suc L) (unitX-between (spiralAngle R (suc L)) most), same-rounding (suc L) (unitY-between (spiralAngle R (suc L)) most))
+
+-- ---- what a caller learns from the answer for a point of a curve's spiral
+
+module _ (A R L l : ℕ) (ok : CurveInRange A R L) (h : l ≤ 1000 * L) where
+  passes : outcome (pointChecks R L l) ≡ passed
+  unfolding pointChecks insideCheck
+  passes =
+      let in-range : CurveInRange 1 R L =
+      record {
+        A-least = omega arith;
+        A-most = omega arith;
+        R-least = ok .R-least;
+        R-most = ok .R-most;
+        L-most = ok .L-most;
+        L-to-R = ok .L-to-R;
+      } in
+      rw (curve-passes 1 R L 0 in-range, le-leb l (1000 * L) h)
+
+  -- It is not refused.
+  pub never-refused : {B : Type 0} (r : Refusal) → pointReplyOf (Refused r) ≡ pointReply R L l → B
+  unfolding pointReply
+  never-refused r e =
+      never (numberOf r) (placeOf r) (sym passes ∙ unreplied (pointChecks R L l) (offsetsBy R L l) e)
+
+  -- The offsets are the rule's, and y fits.
+  pub found-offsets : (p : SpiralPoint) → pointReplyOf (Found p) ≡ pointReply R L l
+      → (pos (p .x) ≡ offsetX R L l) × (pos (p .y) ≡ offsetY R L l) × (p .y ≤ 83333333)
+  unfolding pointReply offsetsBy
+  found-offsets p e =
+      let same = replied (pointChecks R L l) (offsetsBy R L l) e .1 in
+      let y = ap (λ (o : Offsets). o .y) same in
+      (ap (λ (o : Offsets). o .x) same, y, at-most y (y-between R L l (ok .L-to-R) h (ok .L-most)))

@@ -1,0 +1,3 @@
+-- Laws of the element under a station.
+pub mod Sides
+pub mod Walking

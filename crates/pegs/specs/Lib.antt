@@ -1,0 +1,3 @@
+-- What the contracts and the laws of `pegs` cite.
+pub mod Pegs
+pub mod Steps
