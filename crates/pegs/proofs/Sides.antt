@@ -13,16 +13,20 @@ size-negative (pos zero) = refl
 size-negative (pos (suc n)) = refl
 size-negative (negsuc n) = refl
 
+-- A small number is what the machine holds.
+small-fits : (z : ℤ) → natAbs z ≤ 83333333 → SFits w64 z
+small-fits (pos n) h = record { sfits = omega arith }
+small-fits (negsuc n) h = record { sfits = omega arith }
+
+pub small-held : (z : ℤ) → natAbs z ≤ 83333333 → toZ w64 (ofZ w64 z) ≡ z
+small-held z h = toZ-ofZ (small-fits z h)
+
 module _ (y : ℕ) (h : y ≤ 83333333) where
   pub to-right : toZ w64 y ≡ pos y
   to-right = toZ-pos w64 (omega arith)
 
-  negative-fits : (n : ℕ) → n ≤ 83333333 → SFits w64 (negℤ (pos n))
-  negative-fits zero k = record { sfits = omega arith }
-  negative-fits (suc n) k = record { sfits = omega arith }
-
   pub left-fits : SFits w64 (pos 0 -ℤ toZ w64 y)
-  left-fits = rw (to-right, +ℤ-idl (negℤ (pos y))) (negative-fits y h)
+  left-fits = rw (to-right, +ℤ-idl (negℤ (pos y))) (small-fits (negℤ (pos y)) (omega (arith, size-negative (pos y), h)))
 
   pub to-left : toZ w64 (ofZ w64 (pos 0 -ℤ toZ w64 y)) ≡ negℤ (pos y)
   to-left = toZ-ofZ left-fits ∙ ap (λ (z : ℤ). pos 0 -ℤ z) to-right ∙ +ℤ-idl (negℤ (pos y))

@@ -1,3 +1,4 @@
 -- What the contracts and the laws of `pegs` cite.
 pub mod Pegs
+pub mod Numbers
 pub mod Steps

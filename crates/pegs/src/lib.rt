@@ -1,8 +1,10 @@
 // The element under a station (document 02, N1).
+mod stored;
 mod walk;
 
 use refusals::Refusal;
 use stationing::ElementKind;
+pub use stored::peg_numbers;
 pub use walk::peg_at;
 
 // Where a station lies. Lengths and offsets are in µm.
