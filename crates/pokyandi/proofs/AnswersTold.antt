@@ -1,9 +1,10 @@
--- What a caller in C or Rust reads off an answer: the upper 32 bits are 0 after a count and else the refusal's number, 1 to 16; the lower
+-- What a caller in C or Rust reads off an answer: the upper 32 bits are 0 after a count and else the refusal's number, 1 to 17; the lower
 -- ones are the count or the place. Assumes nothing.
 use mathlib.Core.Path.{_≡_, refl}
 use mathlib.Core.List.{List}
 use Prim.Native.Nat.{ℕ, _/_, _%_, _^_, _<_, _≤_}
 use native.Mathlib.Omega.{arith}
+use lib.IntN.{ℤ}
 use lib.ListN.{length}
 use Rattle.refusals.specs.Outcomes.{Outcome, passed, refused}
 use Rattle.refusals.specs.Filling.{FillReply, filled, unfilled, countAfter, withRoom, fill}
@@ -26,10 +27,12 @@ use Rattle.elements.specs.Answer.{arcCheck, elementChecks}
 use Rattle.stationing.specs.Answer.{alignmentChecks}
 use Rattle.stationing.proofs.Accepted.{few}
 use Rattle.stationing.proofs.RowCount.{row-count}
+use Rattle.pegs.specs.Pegs.{stationCheck, pegChecks}
+use Rattle.pegs.specs.Numbers.{stationNumbers}
 use Rattle.station_report.specs.Report.{sheetChecks, sheetText}
 use Rattle.station_report.proofs.Fits.{sheet-numbers, fits}
 use Rattle.pokyandi.specs.Answers.{answerNumber}
-use Rattle.pokyandi.specs.Calls.{sheetStations, checkReply, sheetNumbers, numbersSheet, elementValues, elementNumbers}
+use Rattle.pokyandi.specs.Calls.{sheetStations, sheetPegChecks, sheetPeg, checkReply, sheetNumbers, numbersSheet, elementValues, elementNumbers}
 
 -- The upper and the lower half of an answer tell the reply.
 abbrev pub Told : FillReply → Type 0
@@ -38,17 +41,17 @@ Told (unfilled number place) =
     (answerNumber (unfilled number place) / 2 ^ 32 ≡ number)
     × (answerNumber (unfilled number place) % 2 ^ 32 ≡ place)
     × (1 ≤ number)
-    × (number ≤ 16)
+    × (number ≤ 17)
 
 -- A count of at most 32 bits, or a refusal of those numbers, whose place is small.
-outcome-told : (checks : Checks) (o : Outcome) (count : ℕ) → Refuses 1 16 127 checks → outcome checks ≡ o → (o ≡ passed → count < 2 ^ 32) → Told (countAfter o count)
+outcome-told : (checks : Checks) (o : Outcome) (count : ℕ) → Refuses 1 17 127 checks → outcome checks ≡ o → (o ≡ passed → count < 2 ^ 32) → Told (countAfter o count)
 unfolding answerNumber
 outcome-told checks passed count r e h = let small = h refl in (omega arith, omega arith)
 outcome-told checks (refused n p) count r e h =
-    let told = refusal-numbers 1 16 127 checks r e in
+    let told = refusal-numbers 1 17 127 checks r e in
     (omega (arith, told .2), omega (arith, told .2), told .0, told .1)
 
-reply-told : (checks : Checks) (content lent : List ℕ) → Refuses 1 16 127 checks → (outcome checks ≡ passed → length content < 2 ^ 32)
+reply-told : {A : Type 0} (checks : Checks) (content lent : List A) → Refuses 1 17 127 checks → (outcome checks ≡ passed → length content < 2 ^ 32)
     → Told (fill checks content lent .reply)
 unfolding fill withRoom
 reply-told checks content lent r h =
@@ -58,10 +61,10 @@ reply-told checks content lent r h =
 -- ---- the calls
 
 module _ (sheet : List ℕ) where
-  sheet-few : Refuses 1 16 127 (sheetChecks sheet)
+  sheet-few : Refuses 1 17 127 (sheetChecks sheet)
   sheet-few = wider (sheetChecks sheet) (sheet-numbers sheet) (omega arith) (omega arith) (omega arith)
 
-  read-few : Refuses 1 16 127 (readChecks firstEdition sheet)
+  read-few : Refuses 1 17 127 (readChecks firstEdition sheet)
   read-few = wider (readChecks firstEdition sheet) (read-numbers firstEdition sheet) (omega arith) (omega arith) (omega (arith, count-below firstEdition sheet refl))
 
   stations-few : outcome (sheetChecks sheet) ≡ passed → length (sheetStations sheet) < 2 ^ 32
@@ -93,6 +96,13 @@ module _ (sheet : List ℕ) where
 
   pub text-told : (lent : List ℕ) → Told (fill unchecked (sheetText sheet) lent .reply)
   text-told lent = reply-told unchecked (sheetText sheet) lent tt (λ e. omega (arith, fits sheet))
+
+pub peg-told : (sheet : List ℕ) (station : ℕ) (lent : List ℤ) → Told (fill (sheetPegChecks sheet station) (sheetPeg sheet station) lent .reply)
+unfolding sheetPegChecks sheetPeg stationNumbers sheetChecks pegChecks stationCheck
+peg-told sheet station lent =
+    let few = sheet-few sheet in
+    reply-told (sheetPegChecks sheet station) (sheetPeg sheet station) lent (few .0, λ h. (few .1 h, λ _. (omega arith, omega arith, omega arith)))
+    (λ e. omega arith)
 
 pub write-told : (numbers lent : List ℕ) → Told (fill (numbersChecks numbers) (numbersSheet numbers) lent .reply)
 unfolding numbersChecks numbersSheet countCheck lineOf

@@ -5,7 +5,7 @@ use mathlib.Core.List.{List, [], _∷_}
 use Prim.Native.Nat.{ℕ, _≤_}
 use native.Mathlib.Omega.{arith}
 use lib.Dec.{leb}
-use lib.IntN.{natAbs}
+use lib.IntN.{ℤ, natAbs}
 use lib.ListN.{length}
 use borrow.Author.Tests.{le-leb}
 use Rattle.refusals.specs.Outcomes.{Outcome, passed, refused, need, _▹_}
@@ -29,8 +29,10 @@ use Rattle.stationing.specs.Stations.{stationRow}
 use Rattle.stationing.specs.Answer.{alignmentChecks, stationsIn}
 use Rattle.stationing.proofs.Accepted.{few}
 use Rattle.stationing.proofs.RowCount.{row-count}
+use Rattle.pegs.specs.Pegs.{pegChecks}
+use Rattle.pegs.specs.Numbers.{stationNumbers}
 use Rattle.station_report.specs.Report.{sheetChecks}
-use Rattle.pokyandi.specs.Calls.{sheetStations, checkReply, sheetNumbers, numbersSheet, elementValues, elementNumbers, numbersOf}
+use Rattle.pokyandi.specs.Calls.{sheetStations, sheetPegChecks, sheetPeg, checkReply, sheetNumbers, numbersSheet, elementValues, elementNumbers, numbersOf}
 
 -- ---- the calls on a sheet
 
@@ -41,6 +43,14 @@ pub refused-sheet : (sheet row : List ℕ) {n p : ℕ} → outcome (readChecks f
 unfolding sheetChecks
 refused-sheet sheet row e =
     refused-fill (sheetChecks sheet) (sheetStations sheet) row (ap (λ (o : Outcome). o ▹ outcome (alignmentChecks (readLine firstEdition sheet))) e)
+
+pub refused-peg : (sheet : List ℕ) (station : ℕ) (buffer : List ℤ) {n p : ℕ} → outcome (readChecks firstEdition sheet) ≡ refused n p
+    → (unfilled n p ≡ fill (sheetPegChecks sheet station) (sheetPeg sheet station) buffer .reply)
+    × (buffer ≡ fill (sheetPegChecks sheet station) (sheetPeg sheet station) buffer .buffer)
+unfolding sheetPegChecks
+refused-peg sheet station buffer e =
+    refused-fill (sheetPegChecks sheet station) (sheetPeg sheet station) buffer
+    (ap (λ (o : Outcome). o ▹ outcome (pegChecks (readLine firstEdition sheet) station)) e)
 
 module _ (sheet : List ℕ) (accepted : outcome (readChecks firstEdition sheet) ≡ passed) {line : Line} (same : line ≡ readLine firstEdition sheet) where
   -- The calculator's answer for the sheet's line is the one for the sheet.
@@ -53,6 +63,19 @@ module _ (sheet : List ℕ) (accepted : outcome (readChecks firstEdition sheet) 
       let checks : outcome (alignmentChecks line) ≡ outcome (sheetChecks sheet) =
       λ j. sym accepted j ▹ outcome (alignmentChecks (same j)) in
       refill (alignmentChecks line) (sheetChecks sheet) (stationRow line) (sheetStations sheet) row checks (ap stationRow same) told
+
+  -- The peg of the sheet's line is the one of the sheet.
+  pub peg-reply : (station : ℕ) (buffer : List ℤ) {reply : FillReply} {after : List ℤ}
+      → (reply ≡ fill (pegChecks line station) (stationNumbers line station) buffer .reply)
+      × (after ≡ fill (pegChecks line station) (stationNumbers line station) buffer .buffer)
+      → (reply ≡ fill (sheetPegChecks sheet station) (sheetPeg sheet station) buffer .reply)
+      × (after ≡ fill (sheetPegChecks sheet station) (sheetPeg sheet station) buffer .buffer)
+  unfolding sheetPegChecks sheetPeg
+  peg-reply station buffer told =
+      let checks : outcome (pegChecks line station) ≡ outcome (sheetPegChecks sheet station) =
+      λ j. sym accepted j ▹ outcome (pegChecks (same j) station) in
+      refill (pegChecks line station) (sheetPegChecks sheet station) (stationNumbers line station) (sheetPeg sheet station) buffer checks
+      (ap (λ (l : Line). stationNumbers l station) same) told
 
   -- The writer's is the one for the sheet's own bytes.
   pub rewrite-reply : sheetOf firstEdition line ≡ sheet → (bytes : List ℕ) {reply : FillReply} {after : List ℕ}

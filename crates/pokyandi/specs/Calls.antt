@@ -3,15 +3,17 @@ use mathlib.Core.List.{List, [], _∷_, map}
 use Prim.Native.Nat.{ℕ, _+_, _*_}
 use lib.IntN.{ℤ, natAbs}
 use lib.ListN.{length}
-use Rattle.refusals.specs.Order.{outcome}
+use Rattle.refusals.specs.Order.{Checks, _⨾_, outcome}
 use Rattle.refusals.specs.Filling.{FillReply, countAfter}
 use Rattle.line_numbers.specs.Numbers.{lineNumbers, lineOf}
 use Rattle.packed_sheet.specs.Layout.{firstEdition}
-use Rattle.packed_sheet.specs.Reading.{readLine}
+use Rattle.packed_sheet.specs.Reading.{readChecks, readLine}
 use Rattle.packed_sheet.specs.Writing.{sheetOf}
 use Rattle.elements.specs.declared.Elements.{Elements}
 use Rattle.elements.specs.Answer.{Values, valuesBy}
 use Rattle.stationing.specs.Stations.{stationRow}
+use Rattle.pegs.specs.Pegs.{pegChecks}
+use Rattle.pegs.specs.Numbers.{stationNumbers}
 use Rattle.station_report.specs.Report.{sheetChecks}
 
 -- The stations of a sheet's line.
@@ -21,6 +23,13 @@ sheetStations sheet = stationRow (readLine firstEdition sheet)
 -- What the check of a sheet says: how many stations it has, or the first refusal of reader and calculator.
 unfoldable pub checkReply : List ℕ → FillReply
 checkReply sheet = countAfter (outcome (sheetChecks sheet)) (length (sheetStations sheet))
+
+-- The checks of a sheet and a station: the reader's, and those of a peg; and the peg as numbers.
+unfoldable pub sheetPegChecks : List ℕ → ℕ → Checks
+sheetPegChecks sheet station = readChecks firstEdition sheet ⨾ pegChecks (readLine firstEdition sheet) station
+
+unfoldable pub sheetPeg : List ℕ → ℕ → List ℤ
+sheetPeg sheet station = stationNumbers (readLine firstEdition sheet) station
 
 -- The line of a sheet, as numbers.
 unfoldable pub sheetNumbers : List ℕ → List ℕ
@@ -45,6 +54,6 @@ elementNumbers A R L = map natAbs (elementValues A R L)
 abbrev pub numbersOf : Elements → List ℕ
 numbersOf e = e .x ∷ e .y ∷ e .centre ∷ e .shift ∷ e .arc ∷ e .tangent ∷ []
 
--- The version of the library, 0.2.0: major, minor and patch in thousands.
+-- The version of the library, 0.3.0: major, minor and patch in thousands.
 abbrev pub version : ℕ
-version = (0 * 1000 + 2) * 1000 + 0
+version = (0 * 1000 + 3) * 1000 + 0

@@ -16,12 +16,13 @@ ghost use Rattle.packed_sheet.specs.Reading.{readChecks};
 ghost use Rattle.elements.specs.Answer.{elementChecks};
 ghost use Rattle.station_report.specs.Report.{sheetChecks, sheetText};
 ghost use Rattle.pokyandi.specs.Answers.{answerNumber};
-ghost use Rattle.pokyandi.specs.Calls.{sheetStations, checkReply, sheetNumbers, numbersSheet, elementNumbers, version};
+ghost use Rattle.pokyandi.specs.Calls.{sheetStations, sheetPegChecks, sheetPeg, checkReply, sheetNumbers, numbersSheet, elementNumbers, version};
 use crate::answer::answer_number;
 use crate::curves::curve_numbers;
 use crate::lines::sheet_numbers;
 use crate::lines::write_numbers;
 use crate::sheets::rewrite_sheet;
+use crate::sheets::sheet_peg;
 use crate::sheets::sheet_stations;
 
 // The stations of a sheet in µm, TS, SC, CS and ST of each curve in order, then the end: 4 × n + 1 numbers at the front of `row`.
@@ -41,6 +42,18 @@ pub extern "C" fn pokyandi_check(sheet: &[u8]) -> u64
 {
     let mut row = [0u64; 257];
     answer_number(sheet_stations(sheet, &mut row))
+}
+
+// The element under a station in µm (document 02, N1): five numbers at the front of `peg`, kind (0 straight, 1 spiral in, 2 arc, 3 spiral
+// out), number (of the straight's distance, 0 to n, or of the curve, 1 to n), length from the element's beginning (on the spiral out back
+// from ST), and x and y, on a spiral within 4 µm of the exact ones, y below zero on a left curve, elsewhere 0. Refusals 1 to 15, then 17 for
+// a station outside the line, then 16.
+#[no_mangle]
+pub extern "C" fn pokyandi_peg(sheet: &[u8], station: u64, peg: &mut [i64]) -> u64
+    ensures answer { λ r. ⌜ r ≡ answerNumber (fill (sheetPegChecks (now (sheet .entry)) station) (sheetPeg (now (sheet .entry)) station) (now (peg .entry)) .reply) ⌝ }
+    ensures memory { λ _. ⌜ now (peg .exit) ≡ fill (sheetPegChecks (now (sheet .entry)) station) (sheetPeg (now (sheet .entry)) station) (now (peg .entry)) .buffer ⌝ }
+{
+    answer_number(sheet_peg(sheet, station, &mut *peg))
 }
 
 // A sheet read and written again, its own bytes, at the front of `bytes`. Refusals 1 to 11, then 16.
@@ -102,5 +115,5 @@ pub extern "C" fn pokyandi_text(sheet: &[u8], text: &mut [u8]) -> u64
 pub extern "C" fn pokyandi_version() -> u64
     ensures answer { λ r. ⌜ r ≡ version ⌝ }
 {
-    2000
+    3000
 }

@@ -1,10 +1,10 @@
-// The calls on a sheet: the reader, then the calculator or the writer.
+// The calls on a sheet: the reader, then the calculator, the search for a peg or the writer.
 ghost use mathlib.Core.Path.{_≡_};
 ghost use Rattle.refusals.specs.Filling.{fillReplyOf, fill};
 ghost use Rattle.packed_sheet.specs.Layout.{firstEdition};
 ghost use Rattle.packed_sheet.specs.Reading.{readChecks};
 ghost use Rattle.station_report.specs.Report.{sheetChecks};
-ghost use Rattle.pokyandi.specs.Calls.{sheetStations};
+ghost use Rattle.pokyandi.specs.Calls.{sheetStations, sheetPegChecks, sheetPeg};
 use refusals::FillAnswer;
 use refusals::Verdict;
 
@@ -17,6 +17,19 @@ pub(crate) fn sheet_stations(sheet: &[u8], row: &mut [u64]) -> FillAnswer
     let verdict = read.verdict;
     match verdict {
         Verdict::Pass => calculator::stations(read.line, &mut *row),
+        Verdict::Refused(refusal) => FillAnswer::Refused(refusal),
+    }
+}
+
+// The peg at a station of a sheet at the front of `peg`, or the first refusal of reader, calculator and search.
+pub(crate) fn sheet_peg(sheet: &[u8], station: u64, peg: &mut [i64]) -> FillAnswer
+    ensures { λ a. ⌜ fillReplyOf a ≡ fill (sheetPegChecks (now (sheet .entry)) station) (sheetPeg (now (sheet .entry)) station) (now (peg .entry)) .reply ⌝ }
+    ensures { λ _. ⌜ now (peg .exit) ≡ fill (sheetPegChecks (now (sheet .entry)) station) (sheetPeg (now (sheet .entry)) station) (now (peg .entry)) .buffer ⌝ }
+{
+    let read = sheet::read(sheet);
+    let verdict = read.verdict;
+    match verdict {
+        Verdict::Pass => pegs::peg_numbers(read.line, station, &mut *peg),
         Verdict::Refused(refusal) => FillAnswer::Refused(refusal),
     }
 }

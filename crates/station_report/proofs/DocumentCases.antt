@@ -17,7 +17,8 @@ use Rattle.packed_sheet.specs.Reading.{headOf, distanceOf, curveOf, lineOf, siz
 use Rattle.packed_sheet.proofs.Examples.{sheet9}
 use Rattle.packed_sheet.proofs.Examples as sheets
 use Rattle.elements.specs.WorkingRule.{arcOf}
-use Rattle.elements.specs.Answer.{answered, declined, elementReply}
+use Rattle.refusals.specs.Replying.{answered, declined}
+use Rattle.elements.specs.Answer.{elementReply}
 use Rattle.elements.proofs.Examples as curves
 use Rattle.stationing.specs.RoadTables.{radiusServes}
 use Rattle.stationing.specs.Stations.{straightAt}
