@@ -1,4 +1,5 @@
-/* Pokyandi: the stations of a road alignment from its packed sheet (document 01), its line in numbers, the elements of one curve.
+/* Pokyandi: the stations of a road alignment from its packed sheet (document 01), the element under a station, its line in numbers, the
+ * elements of one curve.
  *
  * Link target/staticlib/libpokyandi.a, which `rt staticlib pokyandi` makes for Linux on x86-64. There is no state; any number of
  * threads may call at once. A call allocates nothing and takes at most POKYANDI_STACK_BYTES of stack.
@@ -9,7 +10,7 @@
  *
  * An answer holds two numbers of 32 bits:
  *   upper 0            done, the lower is the count of entries
- *   upper 1 to 16      refused, the upper is the refusal's number, the lower its place: the index of a distance (0 to n) for 8
+ *   upper 1 to 17      refused, the upper is the refusal's number, the lower its place: the index of a distance (0 to n) for 8
  *                      and 15, the number of a curve (1 to n) for 9 to 14, else 0; of several refusals the first in document 01's order
  */
 #ifndef POKYANDI_H
@@ -22,8 +23,8 @@
 extern "C" {
 #endif
 
-/* The version of this header, 0.2.0: major x 1,000,000 + minor x 1,000 + patch. A later library may have more refusals. */
-#define POKYANDI_VERSION 2000
+/* The version of this header, 0.3.0: major x 1,000,000 + minor x 1,000 + patch. A later library may have more refusals. */
+#define POKYANDI_VERSION 3000
 
 /* The version of the library that is linked. */
 uint64_t pokyandi_version(void);
@@ -34,7 +35,8 @@ uint64_t pokyandi_version(void);
 enum pokyandi_reason {
     POKYANDI_DONE = 0, POKYANDI_TRUNCATED = 1, POKYANDI_EDITION = 2, POKYANDI_CURVE_COUNT = 3, POKYANDI_SPEED = 4, POKYANDI_CROSSFALL = 5,
     POKYANDI_START = 6, POKYANDI_TRAILING = 7, POKYANDI_DISTANCE = 8, POKYANDI_DEFLECTION = 9, POKYANDI_RADIUS = 10, POKYANDI_SPIRAL = 11,
-    POKYANDI_LEAST_RADIUS = 12, POKYANDI_LEAST_SPIRAL = 13, POKYANDI_SHORT_ARC = 14, POKYANDI_SHORT_STRAIGHT = 15, POKYANDI_SMALL_BUFFER = 16
+    POKYANDI_LEAST_RADIUS = 12, POKYANDI_LEAST_SPIRAL = 13, POKYANDI_SHORT_ARC = 14, POKYANDI_SHORT_STRAIGHT = 15, POKYANDI_SMALL_BUFFER = 16,
+    POKYANDI_STATION = 17
 };
 
 static inline uint32_t pokyandi_refusal(uint64_t answer) { return (uint32_t)(answer >> 32); }
@@ -61,6 +63,7 @@ static inline const char *pokyandi_words(uint32_t refusal) {
     case POKYANDI_SHORT_ARC: return "arc under 1 mm";
     case POKYANDI_SHORT_STRAIGHT: return "straight under 1 mm";
     case POKYANDI_SMALL_BUFFER: return "buffer too small for the answer";
+    case POKYANDI_STATION: return "station outside the line";
     default: return "unknown refusal";
     }
 }
@@ -70,6 +73,7 @@ static inline const char *pokyandi_words(uint32_t refusal) {
 #define POKYANDI_LINE_NUMBERS 325
 #define POKYANDI_ROW_NUMBERS 257
 #define POKYANDI_TEXT_BYTES 5417
+#define POKYANDI_PEG_NUMBERS 5
 #define POKYANDI_ELEMENT_NUMBERS 6
 
 /* The stations of a sheet in um: TS, SC, CS, ST of each curve in order, then the end. Count: 4 x n + 1. Refusals: 1 to 15, then 16. */
@@ -81,6 +85,15 @@ uint64_t pokyandi_check(const uint8_t *sheet, size_t sheet_bytes);
 /* What the program `stations` prints for a sheet: the list of stations in metres, or the line of a refusal 1 to 15; no zero byte
  * behind it. Count: its bytes. Refusal: 16. */
 uint64_t pokyandi_text(const uint8_t *sheet, size_t sheet_bytes, uint8_t *text, size_t text_bytes);
+
+/* The element under a station, by the indexes below: its kind, its number (distance 0 to n of a straight, else curve 1 to n), the length
+ * from its beginning in um, and on a spiral x along the tangent and y square to it, in um, negative to the left; elsewhere both are 0. On
+ * the spiral out the length runs back from ST, and x and y are seen from there. The station is in um, from the start (mm x 1,000) to the
+ * end, both included; one that two elements share belongs to the one that begins there, and the end to the last straight. Count: 5.
+ * Refusals: 1 to 15, then 17 for a station outside the line, then 16. */
+uint64_t pokyandi_peg(const uint8_t *sheet, size_t sheet_bytes, uint64_t station, int64_t *peg, size_t peg_numbers);
+enum { POKYANDI_PEG_KIND = 0, POKYANDI_PEG_NUMBER = 1, POKYANDI_PEG_LENGTH = 2, POKYANDI_PEG_X = 3, POKYANDI_PEG_Y = 4 };
+enum { POKYANDI_STRAIGHT = 0, POKYANDI_SPIRAL_IN = 1, POKYANDI_ARC = 2, POKYANDI_SPIRAL_OUT = 3 };
 
 /* The elements of one curve in um, by the indexes below. The deflection is in seconds of arc, radius and spiral in mm. Count: 6.
  * Refusals: 9, 10, 11, 14, then 16, all with place 0. */

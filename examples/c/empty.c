@@ -21,10 +21,13 @@ int main(void) {
     faults += wrong("check of no bytes", pokyandi_check(NULL, 0), POKYANDI_TRUNCATED);
     faults += wrong("rewrite of no bytes", pokyandi_rewrite(NULL, 0, NULL, 0), POKYANDI_TRUNCATED);
     faults += wrong("text of no bytes", pokyandi_text(NULL, 0, NULL, 0), POKYANDI_SMALL_BUFFER);
+    faults += wrong("peg of no bytes", pokyandi_peg(NULL, 0, 0, NULL, 0), POKYANDI_TRUNCATED);
     faults += wrong("read of no bytes", pokyandi_read(NULL, 0, NULL, 0), POKYANDI_TRUNCATED);
     faults += wrong("write of no numbers", pokyandi_write(NULL, 0, NULL, 0), POKYANDI_CURVE_COUNT);
     faults += wrong("stations into nothing", pokyandi_stations(SHEET, sizeof SHEET, NULL, 0), POKYANDI_SMALL_BUFFER);
     faults += wrong("rewrite into nothing", pokyandi_rewrite(SHEET, sizeof SHEET, NULL, 0), POKYANDI_SMALL_BUFFER);
+    faults += wrong("peg into nothing", pokyandi_peg(SHEET, sizeof SHEET, 0, NULL, 0), POKYANDI_SMALL_BUFFER);
+    faults += wrong("peg outside the line", pokyandi_peg(SHEET, sizeof SHEET, 500000001, NULL, 0), POKYANDI_STATION);
     faults += wrong("elements into nothing", pokyandi_elements(177764, 350000, 40000, NULL, 0), POKYANDI_SMALL_BUFFER);
     faults += wrong("read into nothing", pokyandi_read(SHEET, sizeof SHEET, NULL, 0), POKYANDI_SMALL_BUFFER);
     faults += wrong("write into nothing", pokyandi_write(LINE, sizeof LINE / sizeof *LINE, NULL, 0), POKYANDI_SMALL_BUFFER);

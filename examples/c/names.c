@@ -16,6 +16,7 @@ static void show_sizes(void) {
     SHOW(LINE_NUMBERS);
     SHOW(ROW_NUMBERS);
     SHOW(TEXT_BYTES);
+    SHOW(PEG_NUMBERS);
     SHOW(ELEMENT_NUMBERS);
 }
 
@@ -26,6 +27,11 @@ static void show_indexes(void) {
     SHOW(P);
     SHOW(D);
     SHOW(TT);
+    SHOW(PEG_KIND);
+    SHOW(PEG_NUMBER);
+    SHOW(PEG_LENGTH);
+    SHOW(PEG_X);
+    SHOW(PEG_Y);
     SHOW(LINE_CURVES);
     SHOW(LINE_SPEED);
     SHOW(LINE_CROSSFALL);
@@ -36,6 +42,10 @@ static void show_indexes(void) {
     SHOW(CURVE_SPIRAL);
     SHOW(RIGHT);
     SHOW(LEFT);
+    SHOW(STRAIGHT);
+    SHOW(SPIRAL_IN);
+    SHOW(ARC);
+    SHOW(SPIRAL_OUT);
     for (size_t i = 0; i <= 64; i++) {
         show("curve", pokyandi_curve(i));
         show("distance", pokyandi_distance(i));
@@ -60,6 +70,7 @@ static void show_refusals(void) {
     SHOW(SHORT_ARC);
     SHOW(SHORT_STRAIGHT);
     SHOW(SMALL_BUFFER);
+    SHOW(STATION);
     for (uint32_t number = 0; number <= 20; number++) {
         printf("%" PRIu32 ": %s\n", number, pokyandi_words(number));
     }

@@ -1,7 +1,7 @@
 /* Measures how much stack a call takes: it is made on a stack filled with a pattern, with the sheet of each file, or with a line of 64
  * curves, into no room and into enough. No call is made before, so that what the dynamic linker takes when memcpy is first used counts too.
  *
- *     stack CALL FILE..     CALL is stations, check, text, elements, read, write, rewrite or version
+ *     stack CALL FILE..     CALL is stations, check, text, peg, elements, read, write, rewrite or version
  *
  * Prints the most bytes. Exit status: 0 they are at most POKYANDI_STACK_BYTES, 1 they are more, 2 a call or file is none.
  */
@@ -14,6 +14,8 @@
 
 #define PATTERN UINT64_C(0xA5C35A3C96E10F87)
 #define WORDS POKYANDI_STACK_BYTES
+/* um; in document 01's case 1 it lies on the spiral in. */
+#define STATION 339000000
 
 static uint64_t stack[WORDS];
 static ucontext_t outside;
@@ -28,16 +30,18 @@ static uint8_t sheet[MOST_READ];
 static size_t sheet_bytes;
 static uint32_t line[POKYANDI_LINE_NUMBERS];
 static uint64_t row[POKYANDI_ROW_NUMBERS];
+static int64_t peg[POKYANDI_PEG_NUMBERS];
 static uint8_t bytes[POKYANDI_TEXT_BYTES];
 
-enum { STATIONS, CHECK, TEXT, ELEMENTS, READ, WRITE, REWRITE, VERSION, CALLS };
-static const char *const NAMES[CALLS] = {"stations", "check", "text", "elements", "read", "write", "rewrite", "version"};
+enum { STATIONS, CHECK, TEXT, PEG, ELEMENTS, READ, WRITE, REWRITE, VERSION, CALLS };
+static const char *const NAMES[CALLS] = {"stations", "check", "text", "peg", "elements", "read", "write", "rewrite", "version"};
 
 static uint64_t make_call(void) {
     switch (call) {
     case STATIONS: return pokyandi_stations(sheet, sheet_bytes, row, roomy ? POKYANDI_ROW_NUMBERS : 0);
     case CHECK: return pokyandi_check(sheet, sheet_bytes);
     case TEXT: return pokyandi_text(sheet, sheet_bytes, bytes, roomy ? POKYANDI_TEXT_BYTES : 0);
+    case PEG: return pokyandi_peg(sheet, sheet_bytes, STATION, peg, roomy ? POKYANDI_PEG_NUMBERS : 0);
     case ELEMENTS: return pokyandi_elements(177764, 350000, 40000, row, roomy ? POKYANDI_ELEMENT_NUMBERS : 0);
     case READ: return pokyandi_read(sheet, sheet_bytes, line, roomy ? POKYANDI_LINE_NUMBERS : 0);
     case WRITE: return pokyandi_write(line, POKYANDI_LINE_NUMBERS, bytes, roomy ? POKYANDI_SHEET_BYTES : 0);

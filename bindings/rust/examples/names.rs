@@ -2,7 +2,7 @@
 //! and the words of refusals 0 to 20. `examples/c/names.c` prints the same from
 //! the header.
 
-use pokyandi::{curve, element, line, Reason};
+use pokyandi::{curve, element, line, peg, Reason};
 
 fn main() {
     show("version", pokyandi::version());
@@ -23,6 +23,7 @@ fn show_sizes() {
         ("LINE_NUMBERS", pokyandi::LINE_NUMBERS),
         ("ROW_NUMBERS", pokyandi::ROW_NUMBERS),
         ("TEXT_BYTES", pokyandi::TEXT_BYTES),
+        ("PEG_NUMBERS", pokyandi::PEG_NUMBERS),
         ("ELEMENT_NUMBERS", pokyandi::ELEMENT_NUMBERS),
     ];
     show_all(&sizes);
@@ -36,6 +37,11 @@ fn show_indexes() {
         ("P", element::P),
         ("D", element::D),
         ("TT", element::TT),
+        ("PEG_KIND", peg::KIND),
+        ("PEG_NUMBER", peg::NUMBER),
+        ("PEG_LENGTH", peg::LENGTH),
+        ("PEG_X", peg::X),
+        ("PEG_Y", peg::Y),
         ("LINE_CURVES", line::CURVES),
         ("LINE_SPEED", line::SPEED),
         ("LINE_CROSSFALL", line::CROSSFALL),
@@ -48,6 +54,15 @@ fn show_indexes() {
     show_all(&indexes);
     show("RIGHT", curve::RIGHT.into());
     show("LEFT", curve::LEFT.into());
+    let kinds = [
+        ("STRAIGHT", peg::STRAIGHT),
+        ("SPIRAL_IN", peg::SPIRAL_IN),
+        ("ARC", peg::ARC),
+        ("SPIRAL_OUT", peg::SPIRAL_OUT),
+    ];
+    for (name, kind) in kinds {
+        show(name, kind as u64);
+    }
     for i in 0..=64 {
         show_all(&[("curve", line::curve(i)), ("distance", line::distance(i))]);
     }

@@ -2,8 +2,8 @@
 
 use crate::refusal::{counted, Refusal};
 
-/// The version of this crate, 0.2.0: major × 1,000,000 + minor × 1,000 + patch.
-pub const VERSION: u64 = 2_000;
+/// The version of this crate, 0.3.0: major × 1,000,000 + minor × 1,000 + patch.
+pub const VERSION: u64 = 3_000;
 
 /// Bytes of stack that are enough for every call, with what the dynamic linker
 /// takes when a call first uses memcpy.
@@ -17,6 +17,8 @@ pub const LINE_NUMBERS: usize = 325;
 pub const ROW_NUMBERS: usize = 257;
 /// Bytes that are enough for the text of every sheet.
 pub const TEXT_BYTES: usize = 5_417;
+/// Numbers of a peg.
+pub const PEG_NUMBERS: usize = 5;
 /// Numbers of a curve's elements.
 pub const ELEMENT_NUMBERS: usize = 6;
 
@@ -32,6 +34,13 @@ extern "C" {
     fn pokyandi_check(sheet: *const u8, sheet_bytes: usize) -> u64;
     fn pokyandi_text(sheet: *const u8, sheet_bytes: usize, text: *mut u8, text_bytes: usize)
         -> u64;
+    fn pokyandi_peg(
+        sheet: *const u8,
+        sheet_bytes: usize,
+        station: u64,
+        peg: *mut i64,
+        peg_numbers: usize,
+    ) -> u64;
     fn pokyandi_elements(
         deflection: u32,
         radius: u32,
@@ -84,6 +93,23 @@ pub fn check(sheet: &[u8]) -> Result<usize, Refusal> {
 pub fn text(sheet: &[u8], text: &mut [u8]) -> Result<usize, Refusal> {
     // SAFETY: pointers and lengths are those of slices; the text is borrowed alone.
     counted(unsafe { pokyandi_text(sheet.as_ptr(), sheet.len(), text.as_mut_ptr(), text.len()) })
+}
+
+/// The element under a station, by the indexes of [`crate::peg`](mod@crate::peg):
+/// five numbers. The station is in µm, from the start to the end, both included;
+/// one that two elements share belongs to the one that begins there, and the end
+/// to the last straight. Refusals: 1 to 15, then 17, then 16.
+pub fn peg(sheet: &[u8], station: u64, peg: &mut [i64]) -> Result<usize, Refusal> {
+    // SAFETY: pointers and lengths are those of slices; the peg is borrowed alone.
+    counted(unsafe {
+        pokyandi_peg(
+            sheet.as_ptr(),
+            sheet.len(),
+            station,
+            peg.as_mut_ptr(),
+            peg.len(),
+        )
+    })
 }
 
 /// The elements of one curve in µm, by the indexes of [`crate::element`]: six

@@ -12,6 +12,12 @@
 //! let count = pokyandi::stations(&sheet, &mut row).unwrap();
 //! assert_eq!(row[..count], [500_000_000]);
 //!
+//! // 20 m from the start.
+//! let mut peg = [0; pokyandi::PEG_NUMBERS];
+//! pokyandi::peg(&sheet, 20_000_000, &mut peg).unwrap();
+//! assert_eq!(peg[pokyandi::peg::KIND], pokyandi::peg::STRAIGHT);
+//! assert_eq!(peg[pokyandi::peg::LENGTH], 20_000_000);
+//!
 //! let mut line = [0; pokyandi::LINE_NUMBERS];
 //! let count = pokyandi::read(&sheet, &mut line).unwrap();
 //! assert_eq!(line[..count], [0, 70, 8, 0, 500_000]);
@@ -26,8 +32,9 @@ mod calls;
 mod names;
 mod refusal;
 
-pub use calls::{check, elements, read, rewrite, stations, text, version, write};
-pub use calls::{ELEMENT_NUMBERS, LINE_NUMBERS, ROW_NUMBERS, SHEET_BYTES, TEXT_BYTES};
+pub use calls::{check, elements, peg, read, rewrite, stations, text, version, write};
+pub use calls::{ELEMENT_NUMBERS, LINE_NUMBERS, PEG_NUMBERS, ROW_NUMBERS};
+pub use calls::{SHEET_BYTES, TEXT_BYTES};
 pub use calls::{STACK_BYTES, VERSION};
-pub use names::{curve, element, line};
+pub use names::{curve, element, line, peg};
 pub use refusal::{Reason, Refusal};

@@ -1,4 +1,4 @@
-//! Names for the numbers of elements and lines.
+//! Names for the numbers of elements, pegs and lines.
 
 /// Where the elements of one curve stand.
 pub mod element {
@@ -14,6 +14,30 @@ pub mod element {
     pub const D: usize = 4;
     /// Tangent, from PI to TS and ST.
     pub const TT: usize = 5;
+}
+
+/// Where the numbers of a peg stand, and the kinds of element.
+pub mod peg {
+    /// Kind of the element, [`STRAIGHT`] to [`SPIRAL_OUT`].
+    pub const KIND: usize = 0;
+    /// Its number: distance 0 to n of a straight, else curve 1 to n.
+    pub const NUMBER: usize = 1;
+    /// Length from the element's beginning, µm; on the spiral out back from ST.
+    pub const LENGTH: usize = 2;
+    /// Abscissa on the tangent from TS, on the spiral out from ST, µm; 0 on a
+    /// straight and an arc.
+    pub const X: usize = 3;
+    /// Ordinate there, µm, negative on a left curve.
+    pub const Y: usize = 4;
+
+    /// The kind of a straight.
+    pub const STRAIGHT: i64 = 0;
+    /// The kind of the spiral from TS to SC.
+    pub const SPIRAL_IN: i64 = 1;
+    /// The kind of an arc, from SC to CS.
+    pub const ARC: i64 = 2;
+    /// The kind of the spiral from CS to ST.
+    pub const SPIRAL_OUT: i64 = 3;
 }
 
 /// Where the numbers of a line stand: five for its head, then five for each

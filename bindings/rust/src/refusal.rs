@@ -33,6 +33,7 @@ pub enum Reason {
     ShortArc,
     ShortStraight,
     SmallBuffer,
+    Station,
     /// A number that this crate does not know.
     Unknown(u32),
 }
@@ -56,6 +57,7 @@ impl Reason {
         Reason::ShortArc,
         Reason::ShortStraight,
         Reason::SmallBuffer,
+        Reason::Station,
     ];
 
     /// The reason with this number; 0 is none.
@@ -67,7 +69,7 @@ impl Reason {
         }
     }
 
-    /// The number in document 01's table, 1 to 16, or the unknown one.
+    /// The number in document 01's table, 1 to 17, or the unknown one.
     pub fn number(self) -> u32 {
         match self {
             Reason::Truncated => 1,
@@ -86,6 +88,7 @@ impl Reason {
             Reason::ShortArc => 14,
             Reason::ShortStraight => 15,
             Reason::SmallBuffer => 16,
+            Reason::Station => 17,
             Reason::Unknown(number) => number,
         }
     }
@@ -111,6 +114,7 @@ impl Reason {
             Reason::ShortArc => "arc under 1 mm",
             Reason::ShortStraight => "straight under 1 mm",
             Reason::SmallBuffer => "buffer too small for the answer",
+            Reason::Station => "station outside the line",
             Reason::Unknown(_) => "unknown refusal",
         }
     }
@@ -168,7 +172,7 @@ mod tests {
 
     #[test]
     fn an_unknown_refusal_keeps_its_number() {
-        for number in [17, 20, u32::MAX] {
+        for number in [18, 20, u32::MAX] {
             let refusal = counted(u64::from(number) << 32 | 5).unwrap_err();
             assert_eq!(refusal.reason, Reason::Unknown(number));
             let words = format!("refused {number} at place 5: unknown refusal");

@@ -98,6 +98,7 @@ fn rust_type(c_type: &str) -> String {
         "uint8_t" => "u8".into(),
         "uint32_t" => "u32".into(),
         "uint64_t" => "u64".into(),
+        "int64_t" => "i64".into(),
         "size_t" => "usize".into(),
         other => other.into(),
     }
