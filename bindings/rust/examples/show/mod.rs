@@ -43,6 +43,7 @@ pub fn told<T>(answer: Result<T, Refusal>) -> Result<T, Refusal> {
 
 /// Prints a line for each station of a sheet: the number of its curve, the name
 /// of the point, metres; the end has curve 0. Or the refusal.
+#[allow(dead_code)] // Not every example prints them.
 pub fn print_stations(sheet: &[u8]) -> Result<(), Refusal> {
     let mut row = [0; ROW_NUMBERS];
     let count = told(pokyandi::stations(sheet, &mut row))?;
