@@ -1,5 +1,6 @@
 //! The command line.
 
+use crate::commands::pegs::Every;
 use crate::commands::sheets::Sheets;
 use crate::commands::stations::Form;
 use crate::help;
@@ -11,16 +12,34 @@ use std::os::unix::ffi::OsStrExt;
 pub enum Request {
     Help(&'static str),
     Version,
-    Stations { form: Form, sheets: Sheets },
-    Elements { sheets: Sheets },
-    Check { sheets: Sheets },
-    Make { text: OsString, sheet: OsString },
-    Show { sheet: OsString },
+    Stations {
+        form: Form,
+        sheets: Sheets,
+    },
+    Pegs {
+        form: Form,
+        every: Every,
+        sheets: Sheets,
+    },
+    Elements {
+        sheets: Sheets,
+    },
+    Check {
+        sheets: Sheets,
+    },
+    Make {
+        text: OsString,
+        sheet: OsString,
+    },
+    Show {
+        sheet: OsString,
+    },
 }
 
 #[derive(Clone, Copy, PartialEq, Eq)]
 enum Subcommand {
     Stations,
+    Pegs,
     Elements,
     Check,
     Make,
@@ -31,6 +50,7 @@ impl Subcommand {
     fn named(name: &str) -> Result<Subcommand, String> {
         match name {
             "stations" => Ok(Subcommand::Stations),
+            "pegs" => Ok(Subcommand::Pegs),
             "elements" => Ok(Subcommand::Elements),
             "check" => Ok(Subcommand::Check),
             "make" => Ok(Subcommand::Make),
@@ -42,6 +62,7 @@ impl Subcommand {
     fn help(self) -> &'static str {
         match self {
             Subcommand::Stations => help::STATIONS,
+            Subcommand::Pegs => help::PEGS,
             Subcommand::Elements => help::ELEMENTS,
             Subcommand::Check => help::CHECK,
             Subcommand::Make => help::MAKE,
@@ -52,9 +73,16 @@ impl Subcommand {
     /// Whether it takes several sheets, and so a list of them.
     fn takes_list(self) -> bool {
         match self {
-            Subcommand::Stations | Subcommand::Elements | Subcommand::Check => true,
+            Subcommand::Stations | Subcommand::Pegs | Subcommand::Elements | Subcommand::Check => {
+                true
+            }
             Subcommand::Make | Subcommand::Show => false,
         }
+    }
+
+    /// Whether it prints stations in a form that is asked for.
+    fn takes_form(self) -> bool {
+        matches!(self, Subcommand::Stations | Subcommand::Pegs)
     }
 }
 
@@ -81,6 +109,7 @@ pub fn read(words: &[OsString]) -> Result<Request, String> {
 struct Words {
     names: Vec<OsString>,
     form: Option<Form>,
+    every: Option<Every>,
     list: Option<OsString>,
     wants_help: bool,
 }
@@ -97,8 +126,11 @@ impl Words {
                 next.ok_or(format!("{option} lacks its value"))
             };
             match &*option {
-                "--as" if subcommand == Subcommand::Stations => {
+                "--as" if subcommand.takes_form() => {
                     once(&option, &mut read.form, form(&value()?)?)?;
+                }
+                "--every" if subcommand == Subcommand::Pegs => {
+                    once(&option, &mut read.every, every(&value()?)?)?;
                 }
                 "--list" if subcommand.takes_list() => once(&option, &mut read.list, value()?)?,
                 "--help" | "-h" if joined.is_none() => read.wants_help = true,
@@ -111,13 +143,19 @@ impl Words {
         Ok(read)
     }
 
-    fn request(self, subcommand: Subcommand) -> Result<Request, String> {
+    fn request(mut self, subcommand: Subcommand) -> Result<Request, String> {
         if self.wants_help {
             return Ok(Request::Help(subcommand.help()));
         }
+        let form = self.form.unwrap_or(Form::Metres);
         match subcommand {
             Subcommand::Stations => Ok(Request::Stations {
-                form: self.form.unwrap_or(Form::Metres),
+                form,
+                sheets: self.sheets_or(Some("-"))?,
+            }),
+            Subcommand::Pegs => Ok(Request::Pegs {
+                form,
+                every: self.every.take().unwrap_or(Every::USUAL),
                 sheets: self.sheets_or(Some("-"))?,
             }),
             Subcommand::Elements => Ok(Request::Elements {
@@ -177,4 +215,10 @@ fn parts_of(word: &OsStr) -> (Cow<'_, str>, Option<&OsStr>) {
 fn form(name: &OsStr) -> Result<Form, String> {
     let name = name.to_string_lossy();
     Form::named(&name).ok_or(format!("--as takes metres, km, estaca or csv, not {name}"))
+}
+
+fn every(word: &OsStr) -> Result<Every, String> {
+    let word = word.to_string_lossy();
+    let forms = "a length of whole mm above 0, such as 20m, 500mm, 0+020km or 1+0e";
+    Every::read(&word).ok_or(format!("--every takes {forms}, not {word}"))
 }

@@ -82,10 +82,11 @@ impl Console {
         self.say(&format!("pokyandi: {name}: {words}"));
     }
 
-    /// Shows how many sheets of how many are done.
-    pub fn progress(&mut self, done: usize, all: usize) {
+    /// Shows how many of how many are done.
+    pub fn progress(&mut self, done: usize, all: usize, things: &str) {
         if self.shows_progress && self.drawn.elapsed() >= PROGRESS_EVERY {
-            let _ = write!(io::stderr(), "\r{done} of {all} sheets");
+            self.clear_progress();
+            let _ = write!(io::stderr(), "{done} of {all} {things}");
             self.drawn = Instant::now();
             self.is_drawn = true;
         }

@@ -5,6 +5,7 @@ macro_rules! usage {
     () => {
         "\
 usage: pokyandi stations [--as metres|km|estaca|csv] [SHEET..]
+       pokyandi pegs [--every 20m] [--as metres|km|estaca|csv] [SHEET..]
        pokyandi elements SHEET..
        pokyandi check SHEET..
        pokyandi make TEXT SHEET
@@ -25,6 +26,7 @@ pub const ALL: &str = concat!(
 Stations of road alignments from packed sheets.
 
 stations   the stations of TS, SC, CS and ST of every curve, and of the end
+pegs       a list for the crew: the element under every 20 m and every point
 elements   X, Y, k, p, D and TT of every curve, and the straights
 check      a line for each sheet: fine, or why it is refused, with the limit missed
 make       the sheet of a plain text
@@ -75,6 +77,48 @@ be read does not stop the others.
     CS 1 0+620.649189
     ST 1 0+660.649189
     END 0 0+879.659911
+";
+
+pub const PEGS: &str = "\
+usage: pokyandi pegs [--every 20m] [--as metres|km|estaca|csv] [SHEET..]
+       pokyandi pegs [--every 20m] [--as metres|km|estaca|csv] --list FILE
+
+Prints a line for each station to be pegged, in the order of the road: the start,
+every station that is a whole multiple of the distance, TS, SC, CS and ST of every
+curve, and the end. Where several of them meet there is one line; without a spiral
+that is TS=SC, and CS=ST. Of each it prints, lengths in metres:
+
+  STATION   in the form that --as asks for
+  POINT     START, TS, SC, CS, ST or END, else -
+  ELEMENT   straight, spiral-in, arc or spiral-out; where two meet, the one that
+            begins there
+  NUMBER    of the curve; straights count from 0, the one before curve 1
+  LENGTH    from the beginning of the element; on the spiral out back from ST
+  X Y       on spirals: along the tangent from TS, on the spiral out from ST, and
+            square to it, negative to the left; elsewhere 0
+
+  --every LENGTH   the distance, 20m where none is given; without a unit it is in
+                   metres; other forms are 500mm, 0+020km and 1+0e
+  --as FORM        as for stations; csv has one heading for all sheets, and of a
+                   refused one REFUSED, number and place stand for the point
+  --list FILE      the sheets are those that FILE names, a line each
+
+Without a sheet it reads standard input, as for the name -. A distance that would
+give more than 1000000 pegs on a line is an error.
+
+    $ pokyandi pegs --every 50m --as km samples/stations/case-01.sheet | head -n 12
+              STATION POINT ELEMENT    NUMBER       LENGTH          X          Y
+         0+000.000000 START straight        0     0.000000   0.000000   0.000000
+         0+050.000000 -     straight        0    50.000000   0.000000   0.000000
+         0+100.000000 -     straight        0   100.000000   0.000000   0.000000
+         0+150.000000 -     straight        0   150.000000   0.000000   0.000000
+         0+200.000000 -     straight        0   200.000000   0.000000   0.000000
+         0+250.000000 -     straight        0   250.000000   0.000000   0.000000
+         0+300.000000 -     straight        0   300.000000   0.000000   0.000000
+         0+319.010722 TS    spiral-in       1     0.000000   0.000000   0.000000
+         0+350.000000 -     spiral-in       1    30.989278  30.985632   0.354257
+         0+359.010722 SC    arc             1     0.000000   0.000000   0.000000
+         0+400.000000 -     arc             1    40.989278   0.000000   0.000000
 ";
 
 pub const ELEMENTS: &str = "\

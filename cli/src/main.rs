@@ -1,6 +1,6 @@
 //! The command `pokyandi`, for people: it reads arguments, sheets and plain
-//! text, and prints. Stations and elements are numbers that a call of the proved
-//! library answered; a straight is the difference of two stations.
+//! text, and prints. Stations, pegs and elements are numbers that a call of the
+//! proved library answered; a straight is the difference of two stations.
 
 mod arguments;
 mod bits;
@@ -17,7 +17,7 @@ mod quantity;
 mod text;
 
 use arguments::Request;
-use commands::{check, elements, make, show, stations};
+use commands::{check, elements, make, pegs, show, stations};
 use console::{Console, Status};
 use std::env;
 use std::io;
@@ -48,6 +48,11 @@ fn answer(request: Request, console: &mut Console) -> io::Result<Status> {
         Request::Help(text) => console.print(text.as_bytes()).map(|()| Status::Done),
         Request::Version => version(console),
         Request::Stations { form, sheets } => stations::run(form, sheets, console),
+        Request::Pegs {
+            form,
+            every,
+            sheets,
+        } => pegs::run(form, every, sheets, console),
         Request::Elements { sheets } => elements::run(sheets, console),
         Request::Check { sheets } => check::run(sheets, console),
         Request::Make { text, sheet } => make::run(&text, &sheet, console),

@@ -51,6 +51,16 @@ pub fn length(word: &str) -> Result<Quantity, String> {
     })
 }
 
+/// A length in mm; without a unit it is in metres.
+pub fn length_in_metres(word: &str) -> Result<Quantity, String> {
+    let has_unit = unit_begin(word) < word.len() || word.contains('+');
+    let value = match has_unit {
+        true => length(word)?.value,
+        false => length(&format!("{word}m"))?.value,
+    };
+    Ok(Quantity { value, has_unit })
+}
+
 /// Where the letters at the end of a word begin.
 fn unit_begin(word: &str) -> usize {
     word.trim_end_matches(|letter: char| letter.is_ascii_alphabetic())
@@ -200,8 +210,13 @@ pub fn metres_of_mm(mm: u64) -> String {
 
 /// µm in metres, which may be below zero: `-0.000205 m`.
 pub fn metres_of_um(um: i64) -> String {
+    format!("{} m", signed_metres(um))
+}
+
+/// The same without the unit: `-0.000205`.
+pub fn signed_metres(um: i64) -> String {
     let sign = if um < 0 { "-" } else { "" };
-    format!("{sign}{} m", decimal(um.unsigned_abs(), 6))
+    format!("{sign}{}", decimal(um.unsigned_abs(), 6))
 }
 
 /// Seconds in degrees: `49°22'44"`.

@@ -3,6 +3,7 @@
 pub mod check;
 pub mod elements;
 pub mod make;
+pub mod pegs;
 pub mod sheets;
 pub mod show;
 pub mod stations;

@@ -47,7 +47,7 @@ pub fn each(
             Err(error) => failed(console, name, &error),
         };
         worst = worst.max(status);
-        console.progress(i + 1, names.len());
+        console.progress(i + 1, names.len(), "sheets");
     }
     Ok(worst)
 }
@@ -103,8 +103,19 @@ impl Sheet<'_> {
 
     /// `REFUSED` with number and place for the results, and the words.
     pub fn refuse(&self, refusal: Refusal, console: &mut Console) -> io::Result<Status> {
+        self.refuse_in_row("", "", refusal, console)
+    }
+
+    /// The same between other columns of a row.
+    pub fn refuse_in_row(
+        &self,
+        before: &str,
+        behind: &str,
+        refusal: Refusal,
+        console: &mut Console,
+    ) -> io::Result<Status> {
         let Refusal { reason, place } = refusal;
-        let line = format!("REFUSED {} {place}\n", reason.number());
+        let line = format!("{before}REFUSED {} {place}{behind}\n", reason.number());
         console.print(line.as_bytes())?;
         self.explain(refusal, console);
         Ok(Status::Refused)

@@ -29,6 +29,15 @@ impl Form {
             _ => None,
         }
     }
+
+    /// A station of µm in this form; in CSV it is in metres.
+    pub fn written(self, station: u64) -> String {
+        match self {
+            Form::Metres | Form::Csv => decimal(station, 6),
+            Form::Kilometres => kilometres(station, 6),
+            Form::Estacas => estacas(station),
+        }
+    }
 }
 
 pub fn run(form: Form, sheets: Sheets, console: &mut Console) -> io::Result<Status> {
@@ -37,8 +46,7 @@ pub fn run(form: Form, sheets: Sheets, console: &mut Console) -> io::Result<Stat
     }
     each(sheets, console, |sheet, console| match form {
         Form::Metres => print_text(sheet, console),
-        Form::Kilometres => print_list(sheet, |station| kilometres(station, 6), console),
-        Form::Estacas => print_list(sheet, estacas, console),
+        Form::Kilometres | Form::Estacas => print_list(sheet, form, console),
         Form::Csv => print_csv(sheet, console),
     })
 }
@@ -60,11 +68,7 @@ fn print_text(sheet: &Sheet, console: &mut Console) -> io::Result<Status> {
 }
 
 /// The same list, stations written in another way.
-fn print_list(
-    sheet: &Sheet,
-    written: impl Fn(u64) -> String,
-    console: &mut Console,
-) -> io::Result<Status> {
+fn print_list(sheet: &Sheet, form: Form, console: &mut Console) -> io::Result<Status> {
     console.print(sheet.heading().as_bytes())?;
     let points = match points(&sheet.bytes) {
         Ok(points) => points,
@@ -78,7 +82,7 @@ fn print_list(
     } in points
     {
         // A text takes all that is written to it.
-        let _ = writeln!(text, "{name} {curve} {}", written(station));
+        let _ = writeln!(text, "{name} {curve} {}", form.written(station));
     }
     console.print(text.as_bytes())?;
     Ok(Status::Done)
@@ -90,13 +94,7 @@ fn print_csv(sheet: &Sheet, console: &mut Console) -> io::Result<Status> {
     let name = quoted(&sheet.name.to_string_lossy());
     let points = match points(&sheet.bytes) {
         Ok(points) => points,
-        Err(refusal) => {
-            let Refusal { reason, place } = refusal;
-            let line = format!("{name},REFUSED {} {place},,\n", reason.number());
-            console.print(line.as_bytes())?;
-            sheet.explain(refusal, console);
-            return Ok(Status::Refused);
-        }
+        Err(refusal) => return sheet.refuse_in_row(&format!("{name},"), ",,", refusal, console),
     };
     let mut text = String::new();
     for Point {
@@ -105,14 +103,15 @@ fn print_csv(sheet: &Sheet, console: &mut Console) -> io::Result<Status> {
         station,
     } in points
     {
-        let _ = writeln!(text, "{name},{point},{curve},{}", decimal(station, 6));
+        let station = Form::Csv.written(station);
+        let _ = writeln!(text, "{name},{point},{curve},{station}");
     }
     console.print(text.as_bytes())?;
     Ok(Status::Done)
 }
 
 /// A name as a field of CSV.
-fn quoted(name: &str) -> String {
+pub fn quoted(name: &str) -> String {
     match name.contains([',', '"', '\n', '\r']) {
         true => format!("\"{}\"", name.replace('"', "\"\"")),
         false => name.to_string(),
@@ -120,14 +119,14 @@ fn quoted(name: &str) -> String {
 }
 
 /// A station, µm, with the name of its point and the number of its curve.
-struct Point {
-    name: &'static str,
-    curve: usize,
-    station: u64,
+pub struct Point {
+    pub name: &'static str,
+    pub curve: usize,
+    pub station: u64,
 }
 
 /// The points of a sheet in order; the end has curve 0.
-fn points(sheet: &[u8]) -> Result<Vec<Point>, Refusal> {
+pub fn points(sheet: &[u8]) -> Result<Vec<Point>, Refusal> {
     let mut row = [0; ROW_NUMBERS];
     let count = pokyandi::stations(sheet, &mut row)?;
     let point = |(i, &station): (usize, &u64)| match i + 1 == count {

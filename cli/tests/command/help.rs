@@ -2,7 +2,7 @@
 
 use crate::run::{run, run_in_shell, top};
 
-const SUBCOMMANDS: [&str; 5] = ["stations", "elements", "check", "make", "show"];
+const SUBCOMMANDS: [&str; 6] = ["stations", "pegs", "elements", "check", "make", "show"];
 
 /// The commands of a help text's examples, each with what it prints.
 fn examples(help: &str) -> Vec<(String, String)> {
@@ -52,7 +52,7 @@ fn the_help_lists_the_subcommands() {
 
 #[test]
 fn wrong_usage_has_status_2_and_no_results() {
-    let lines: [&[&str]; 19] = [
+    let lines: [&[&str]; 26] = [
         &[],
         &["station"],
         &["--verbose"],
@@ -65,6 +65,13 @@ fn wrong_usage_has_status_2_and_no_results() {
         &["stations", "--list", "a", "--list", "b"],
         &["check", "--=a", "stations/case-01.sheet"],
         &["check", "--help=a"],
+        &["pegs", "--every"],
+        &["pegs", "--every", "0", "stations/case-01.sheet"],
+        &["pegs", "--every", "20.0005m", "stations/case-01.sheet"],
+        &["pegs", "--every", "20ft", "stations/case-01.sheet"],
+        &["pegs", "--every", "20m", "--every", "20m"],
+        &["pegs", "--as", "feet", "stations/case-01.sheet"],
+        &["stations", "--every", "20m", "stations/case-01.sheet"],
         &["elements"],
         &["elements", "--as", "km", "a.sheet"],
         &["check"],

@@ -5,6 +5,7 @@ mod failures;
 mod faulty_texts;
 mod help;
 mod made;
+mod pegs;
 mod random_lines;
 mod run;
 mod several;

@@ -37,13 +37,13 @@ fn printed(arguments: &[&str], path: &Path) -> String {
 }
 
 /// A number of µm in metres, `319.010722`.
-fn micrometres(metres: &str) -> u64 {
+pub fn micrometres(metres: &str) -> u64 {
     assert_eq!(metres.find('.'), metres.len().checked_sub(7), "{metres}");
     metres.replace('.', "").parse().unwrap()
 }
 
 /// Kilometres and metres, or estacas and metres, in µm.
-fn counted(station: &str, metres: u64) -> u64 {
+pub fn counted(station: &str, metres: u64) -> u64 {
     let (count, rest) = station.split_once('+').unwrap();
     let rest = micrometres(rest.trim());
     assert!(rest < metres * 1_000_000, "{station}");
