@@ -87,9 +87,9 @@ uint64_t pokyandi_check(const uint8_t *sheet, size_t sheet_bytes);
 uint64_t pokyandi_text(const uint8_t *sheet, size_t sheet_bytes, uint8_t *text, size_t text_bytes);
 
 /* The element under a station, by the indexes below: its kind, its number (distance 0 to n of a straight, else curve 1 to n), the length
- * from its beginning in um, and on a spiral x along the tangent and y square to it, in um, negative to the left; elsewhere both are 0. On
- * the spiral out the length runs back from ST, and x and y are seen from there. The station is in um, from the start (mm x 1,000) to the
- * end, both included; one that two elements share belongs to the one that begins there, and the end to the last straight. Count: 5.
+ * from its beginning in um, and on a spiral x along the tangent and y square to it, in um, y negative on a left curve; elsewhere both are
+ * 0. On the spiral out the length runs back from ST, and x and y are seen from there. The station is in um, from the start (mm x 1,000) to
+ * the end, both included; one that two elements share belongs to the one that begins there, and the end to the last straight. Count: 5.
  * Refusals: 1 to 15, then 17 for a station outside the line, then 16. */
 uint64_t pokyandi_peg(const uint8_t *sheet, size_t sheet_bytes, uint64_t station, int64_t *peg, size_t peg_numbers);
 enum { POKYANDI_PEG_KIND = 0, POKYANDI_PEG_NUMBER = 1, POKYANDI_PEG_LENGTH = 2, POKYANDI_PEG_X = 3, POKYANDI_PEG_Y = 4 };

@@ -95,7 +95,7 @@ that is TS=SC, and CS=ST. Of each it prints, lengths in metres:
   NUMBER    of the curve; straights count from 0, the one before curve 1
   LENGTH    from the beginning of the element; on the spiral out back from ST
   X Y       on spirals: along the tangent from TS, on the spiral out from ST, and
-            square to it, negative to the left; elsewhere 0
+            square to it, Y negative on a left curve; elsewhere 0
 
   --every LENGTH   the distance, 20m where none is given; without a unit it is in
                    metres; other forms are 500mm, 0+020km and 1+0e
