@@ -18,7 +18,7 @@ pub const GREATEST_SPIRAL: u32 = 500_000;
 pub const LEAST_ARC: i128 = 1_000;
 
 /// The scale 10⁹ (document 01, Working rule).
-const SCALE: i128 = 1_000_000_000;
+pub const SCALE: i128 = 1_000_000_000;
 /// π at the scale 10⁹ (document 01, Working rule, full angle).
 const PI: i128 = 3_141_592_654;
 /// From mm at the scale 10⁹ to µm (document 01, Working rule, X and Y).
@@ -89,7 +89,7 @@ pub fn working_rule(a: u32, r: u32, l: u32) -> Elements {
 
 /// A quotient of numbers not below zero, rounded down (document 01, Working
 /// rule).
-fn quotient(upper: i128, lower: i128) -> i128 {
+pub fn quotient(upper: i128, lower: i128) -> i128 {
     debug_assert!(upper >= 0, "a quotient of a number below zero: {upper}");
     debug_assert!(lower > 0, "a quotient by a number not above zero: {lower}");
     upper / lower
@@ -106,7 +106,7 @@ fn half_angle(a: u32) -> i128 {
 }
 
 /// Spiral angle t: L × 500,000,000 / R (document 01, Working rule).
-fn spiral_angle(l: u32, r: u32) -> i128 {
+pub fn spiral_angle(l: u32, r: u32) -> i128 {
     quotient(i128::from(l) * 500_000_000, i128::from(r))
 }
 
@@ -161,12 +161,12 @@ fn t4(t: i128) -> i128 {
 }
 
 /// Small x = 10⁹ − t2/10 + t4/216 (document 01, Working rule).
-fn x_ratio(t: i128) -> i128 {
+pub fn x_ratio(t: i128) -> i128 {
     SCALE - quotient(t2(t), 10) + quotient(t4(t), 216)
 }
 
 /// Small y = t/3 − t3/42 (document 01, Working rule).
-fn y_ratio(t: i128) -> i128 {
+pub fn y_ratio(t: i128) -> i128 {
     quotient(t, 3) - quotient(t3(t), 42)
 }
 

@@ -1,12 +1,13 @@
 //! The separately written reference of the road stationing product: the packed
-//! sheet, the elements of one curve (X, Y, k, p, D, TT), the stations of a line
-//! and what the station program prints, worked from document 01 alone. It shares
-//! no code with the product and is written to be compared with the paper line by
-//! line; its results are what the product's results are held against.
+//! sheet, the elements of one curve (X, Y, k, p, D, TT), the stations of a line,
+//! the element under a station and what the station program prints, worked from
+//! documents 01 and 02 alone. It shares no code with the product and is written to
+//! be compared with the papers line by line; its results are what the product's
+//! results are held against.
 //!
-//! The paper is in [`elements`], [`mod@line`], [`refusal`], [`road_tables`],
-//! [`sheet`] (its fields of bits in [`bits`]), [`stations`], [`lent`] and [`report`], its
-//! sums in fractions are in [`exact`]; a line as numbers is in [`line_numbers`], a
+//! The papers are in [`elements`], [`mod@line`], [`refusal`], [`road_tables`],
+//! [`sheet`] (its fields of bits in [`bits`]), [`stations`], [`pegs`], [`lent`] and
+//! [`report`], their sums in fractions are in [`exact`]; a line as numbers is in [`line_numbers`], a
 //! sheet as text in [`hexadecimal`]; the samples are in [`samples`]. How far rule
 //! and fractions lie apart is in [`accuracy`], looked for by [`search`] and printed
 //! by [`accuracy_table`]. The station program is run by [`runner`].
@@ -21,6 +22,7 @@ pub mod hexadecimal;
 pub mod lent;
 pub mod line;
 pub mod line_numbers;
+pub mod pegs;
 pub mod refusal;
 pub mod report;
 pub mod road_tables;

@@ -87,12 +87,12 @@ fn points(line: &Line) -> Vec<u64> {
 }
 
 /// From mm to µm.
-fn micrometres(length: u32) -> i128 {
+pub fn micrometres(length: u32) -> i128 {
     1_000 * i128::from(length)
 }
 
 /// A station as a number of the row.
-fn station(length: i128) -> u64 {
+pub fn station(length: i128) -> u64 {
     u64::try_from(length).expect("a station is above zero and far below 2⁶⁴")
 }
 

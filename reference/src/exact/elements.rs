@@ -94,14 +94,14 @@ fn cosine(q: &Fraction, terms: u32) -> Fraction {
 }
 
 /// X over L: 1 − s²/10 + s⁴/216 (document 01, Clerk's sums).
-fn x_ratio(s: &Fraction) -> Fraction {
+pub fn x_ratio(s: &Fraction) -> Fraction {
     let s2 = s * s;
     let s4 = &s2 * &s2;
     Fraction::from(1) - s2 / 10 + s4 / 216
 }
 
 /// Y over L: s/3 − s³/42 (document 01, Clerk's sums).
-fn y_ratio(s: &Fraction) -> Fraction {
+pub fn y_ratio(s: &Fraction) -> Fraction {
     let s3 = s * s * s;
     s / 3 - s3 / 42
 }

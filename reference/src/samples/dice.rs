@@ -25,6 +25,12 @@ impl Dice {
         least + u32::try_from(offset).expect("the offset is below the width")
     }
 
+    /// A long number from `least` to `most`, all about alike.
+    pub fn long(&mut self, least: u64, most: u64) -> u64 {
+        let offset = u128::from(self.next()) % (u128::from(most - least) + 1);
+        least + u64::try_from(offset).expect("the offset is at most the width")
+    }
+
     /// A number from `least` (above 0) to `most`, each doubling about as
     /// frequent as the next.
     pub fn spread(&mut self, least: u32, most: u32) -> u32 {
