@@ -10,15 +10,16 @@ usage: differential run [--seed S] [--count N]
 run       calls the static library and the reference with the same N inputs
           and compares the answers and every byte or number of the memory,
           lent or not. An input is one of the calls stations, check, rewrite,
-          elements, text, read and write with one sheet, curve or line and one
-          lent buffer. The first inputs have a name. Prints how often each call
-          gave each answer. With 20000 inputs or more, every refusal that a call
-          can give must occur.
+          elements, text, read, write and peg with one sheet, curve or line and
+          one lent buffer. The first inputs have a name. Prints how often each
+          call gave each answer. With 20000 inputs or more, every refusal that a
+          call can give must occur.
           Without options: seed 1, 40000 inputs.
 replay    compares one input of a run again, and prints it.
-accuracy  holds the library's stations and elements of N lines against document
-          01's sums in fractions. Prints the largest differences, the shortest
-          exact lengths that are accepted and the longest that are refused.
+accuracy  holds the library's stations, elements and offsets on spirals of N
+          lines against document 01's sums in fractions. Prints the largest
+          differences, the shortest exact lengths that are accepted and the
+          longest that are refused.
           Without options: seed 1, 3000 lines.
 published holds the library's elements against source document 002's worked
           example, and those of curves without spiral against document 01's

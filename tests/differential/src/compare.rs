@@ -86,6 +86,10 @@ pub fn compare(library: &dyn Side, input: &Input) -> Comparison {
             let outcome = both(input, library, |side, bytes| side.write(line, bytes));
             undone(outcome, line, |sheet, numbers| library.read(sheet, numbers))
         }),
+        Request::Peg(sheet, station) => with_given(input, sheet, |sheet| {
+            let call = |side: &dyn Side, numbers: &mut [i64]| side.peg(sheet, *station, numbers);
+            both(input, library, call).0
+        }),
     }
 }
 
@@ -223,11 +227,18 @@ mod tests {
         refuse(9, 1)
     }
 
-    fn spoilt(numbers: Change<u64>, bytes: Change<u8>, line: Change<u32>) -> Spoilt {
+    fn spoilt(
+        numbers: Change<u64>,
+        bytes: Change<u8>,
+        line: Change<u32>,
+        signed: Change<i64>,
+    ) -> Spoilt {
         Spoilt {
             numbers,
             bytes,
             line,
+            signed,
+            ..Spoilt::NOT
         }
     }
 
@@ -283,8 +294,11 @@ mod tests {
     #[test]
     fn wrong_answers_are_found() {
         let answer = Some(Difference::Answer);
-        let wrong_count = spoilt(count, count, count);
-        let refusals = [spoilt(number, number, number), spoilt(place, place, place)];
+        let wrong_count = spoilt(count, count, count, count);
+        let refusals = [
+            spoilt(number, number, number, number),
+            spoilt(place, place, place, place),
+        ];
         for request in requests() {
             assert_eq!(difference(&wrong_count, &request, Room::Needed(0)), answer);
         }
@@ -303,14 +317,17 @@ mod tests {
             let needed = request.needed() as isize;
             let found = |library, more| index(difference(&library, &request, Room::Needed(more)));
             assert_eq!(
-                found(spoilt(content, content, content), 0),
+                found(spoilt(content, content, content, content), 0),
                 Some(needed - 1)
             );
             assert_eq!(
-                found(spoilt(remainder, remainder, remainder), 1),
+                found(spoilt(remainder, remainder, remainder, remainder), 1),
                 Some(needed)
             );
-            assert_eq!(found(spoilt(refused, refused, refused), -1), Some(0));
+            assert_eq!(
+                found(spoilt(refused, refused, refused, refused), -1),
+                Some(0)
+            );
         }
     }
 

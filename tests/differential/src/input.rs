@@ -1,6 +1,6 @@
 //! One input: a call, its sheet, curve or line, and the room that is lent.
 
-use crate::side::text_of;
+use crate::side::{stretches_of, text_of};
 use reference::curve::Curve;
 use reference::line::MOST_CURVES;
 use reference::line_numbers::number_count;
@@ -17,10 +17,11 @@ pub enum Call {
     Text,
     Read,
     Write,
+    Peg,
 }
 
 impl Call {
-    pub const ALL: [Call; 7] = [
+    pub const ALL: [Call; 8] = [
         Call::Stations,
         Call::Check,
         Call::Rewrite,
@@ -28,6 +29,7 @@ impl Call {
         Call::Text,
         Call::Read,
         Call::Write,
+        Call::Peg,
     ];
 
     pub fn name(self) -> &'static str {
@@ -39,6 +41,7 @@ impl Call {
             Call::Text => "text",
             Call::Read => "read",
             Call::Write => "write",
+            Call::Peg => "peg",
         }
     }
 
@@ -52,6 +55,7 @@ impl Call {
             Call::Text => 5_600,
             Call::Read => 340,
             Call::Write => 740,
+            Call::Peg => 12,
         }
     }
 
@@ -64,11 +68,13 @@ impl Call {
             Call::Elements => vec![9, 10, 11, 14, 16],
             Call::Text => vec![16],
             Call::Write => vec![3, 4, 5, 6, 8, 9, 10, 11, 16],
+            Call::Peg => (1..=17).collect(),
         }
     }
 }
 
-/// A call with its sheet, its curve or the numbers of its line.
+/// A call with its sheet, its curve or the numbers of its line; a peg with its
+/// station too.
 #[derive(Clone, Debug, PartialEq, Eq)]
 pub enum Request {
     Stations(Vec<u8>),
@@ -78,17 +84,27 @@ pub enum Request {
     Text(Vec<u8>),
     Read(Vec<u8>),
     Write(Vec<u32>),
+    Peg(Vec<u8>, u64),
 }
 
 impl Request {
     /// The requests of a sheet.
-    pub const OF_A_SHEET: [fn(Vec<u8>) -> Request; 5] = [
+    pub const OF_A_SHEET: [fn(Vec<u8>) -> Request; 6] = [
         Request::Stations,
         Request::Check,
         Request::Rewrite,
         Request::Text,
         Request::Read,
+        Request::peg_midway,
     ];
+
+    /// The peg midway between start and end; at 0 where the sheet is refused.
+    fn peg_midway(sheet: Vec<u8>) -> Request {
+        let stretches = stretches_of(&sheet);
+        let ends = stretches.first().zip(stretches.last());
+        let station = ends.map_or(0, |(first, last)| (first.begin + last.end) / 2);
+        Request::Peg(sheet, station)
+    }
 
     pub fn call(&self) -> Call {
         match self {
@@ -99,6 +115,7 @@ impl Request {
             Request::Text(_) => Call::Text,
             Request::Read(_) => Call::Read,
             Request::Write(_) => Call::Write,
+            Request::Peg(..) => Call::Peg,
         }
     }
 
@@ -111,7 +128,8 @@ impl Request {
             | Request::Check(sheet)
             | Request::Rewrite(sheet)
             | Request::Text(sheet)
-            | Request::Read(sheet) => curves_of(sheet),
+            | Request::Read(sheet)
+            | Request::Peg(sheet, _) => curves_of(sheet),
             Request::Write(line) => line.first().map_or(0, |n| at_most_64(*n)),
         }
     }
@@ -127,6 +145,7 @@ impl Request {
             Request::Elements(_) => pokyandi::ELEMENT_NUMBERS,
             Request::Text(sheet) => text_of(sheet).len(),
             Request::Read(_) => number_count(n),
+            Request::Peg(..) => pokyandi::PEG_NUMBERS,
         }
     }
 }
@@ -183,7 +202,7 @@ mod tests {
         let sheet = sheet_of(&Line::case_1());
         let requests = Request::OF_A_SHEET.map(|request| request(sheet.clone()));
         let needs = requests.map(|request| request.needed());
-        assert_eq!(needs, [5, 0, 21, 20 + 4 * 16 + 17, 10]);
+        assert_eq!(needs, [5, 0, 21, 20 + 4 * 16 + 17, 10, 5]);
         let line = Request::Write(Line::case_1().numbers());
         assert_eq!(line.needed(), 21);
         let curve = Request::Elements(Line::case_1().curve(1));
@@ -201,6 +220,7 @@ mod tests {
             Request::Read(vec![0xFF; 7]).needed(),
             pokyandi::LINE_NUMBERS
         );
+        assert_eq!(Request::Peg(vec![], 0).needed(), 5);
         assert_eq!(Request::Write(vec![]).needed(), 10);
         assert_eq!(Request::Write(vec![u32::MAX]).needed(), 706);
     }

@@ -4,7 +4,7 @@
 const GUARDS: usize = 16;
 
 /// A byte or number of the memory.
-pub trait Entry: Copy + PartialEq + Into<u64> {
+pub trait Entry: Copy + PartialEq + Into<i128> {
     /// Entry i of a pattern; no two neighbours are alike.
     fn of_pattern(pattern: u64, i: usize) -> Self;
 }
@@ -30,6 +30,12 @@ impl Entry for u64 {
     }
 }
 
+impl Entry for i64 {
+    fn of_pattern(pattern: u64, i: usize) -> i64 {
+        u64::of_pattern(pattern, i) as i64
+    }
+}
+
 /// Entries of which a middle part is lent; the others are guards.
 #[derive(Clone)]
 pub struct Memory<T> {
@@ -44,8 +50,8 @@ pub struct Memory<T> {
 #[derive(Clone, Copy, Debug, PartialEq, Eq)]
 pub struct EntryDifference {
     pub index: isize,
-    pub found: u64,
-    pub expected: u64,
+    pub found: i128,
+    pub expected: i128,
 }
 
 impl<T: Entry> Memory<T> {
@@ -110,6 +116,8 @@ mod tests {
             assert!(line.entries.windows(2).all(|pair| pair[0] != pair[1]));
             let numbers = Memory::<u64>::new(pattern, 300, 300);
             assert!(numbers.entries.windows(2).all(|pair| pair[0] != pair[1]));
+            let signed = Memory::<i64>::new(pattern, 300, 300);
+            assert!(signed.entries.windows(2).all(|pair| pair[0] != pair[1]));
         }
     }
 

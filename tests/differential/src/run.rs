@@ -77,6 +77,11 @@ fn request_rows(request: &Request) -> Vec<String> {
         | Request::Rewrite(sheet)
         | Request::Text(sheet)
         | Request::Read(sheet) => sheet_rows(sheet),
+        Request::Peg(sheet, station) => {
+            let mut rows = sheet_rows(sheet);
+            rows.push(row("station", station));
+            rows
+        }
         Request::Write(line) => {
             let numbers: Vec<String> = line.iter().map(u32::to_string).collect();
             vec![row("line", numbers.join(" "))]
@@ -121,7 +126,7 @@ mod tests {
     use super::*;
     use crate::input::Room;
     use crate::side::Library;
-    use crate::spoilt::Spoilt;
+    use crate::spoilt::{Spoilt, PEG_FAULTS};
     use reference::refusal::refuse;
 
     #[test]
@@ -167,6 +172,30 @@ mod tests {
         assert!(found.contains("call         write\nline         0 70 8 0 500000\n"));
         assert!(found.ends_with("do not undo each other\n"), "{found}");
         assert!(!found.contains("\nname "), "{found}");
+    }
+
+    /// Each fault of pegs shows in the inputs with a name, and in random ones.
+    #[test]
+    fn faulty_pegs_are_reported() {
+        let inputs = Inputs::of(1);
+        let is_peg = |index: &u64| matches!(inputs.input(*index).request, Request::Peg(..));
+        let fixed = inputs.fixed();
+        let kinds = [0..fixed, fixed..fixed + 10_000];
+        let kinds = kinds.map(|indexes| indexes.filter(is_peg).collect::<Vec<u64>>());
+        for (fault, peg) in PEG_FAULTS {
+            let library = Spoilt { peg, ..Spoilt::NOT };
+            for indexes in &kinds {
+                let mut reports = indexes.iter().filter_map(|index| {
+                    let input = inputs.input(*index);
+                    let result = compare_caught(&library, &input);
+                    let differs = result.as_ref()?.difference.is_some();
+                    differs.then(|| report(&inputs, *index, &input, &result))
+                });
+                let found = reports.next().expect(fault);
+                assert!(found.contains("\ncall         peg\n"), "{found}");
+                assert!(found.contains("\nstation      "), "{found}");
+            }
+        }
     }
 
     #[test]

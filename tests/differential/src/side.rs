@@ -4,6 +4,7 @@ use reference::curve::Curve;
 use reference::elements::{elements, Elements};
 use reference::lent::fill;
 use reference::line_numbers;
+use reference::pegs::{peg, stretches, Stretch};
 use reference::refusal::Refusal;
 use reference::report::report;
 use reference::sheet;
@@ -21,6 +22,7 @@ pub trait Side {
     fn text(&self, sheet: &[u8], text: &mut [u8]) -> Answer;
     fn read(&self, sheet: &[u8], line: &mut [u32]) -> Answer;
     fn write(&self, line: &[u32], bytes: &mut [u8]) -> Answer;
+    fn peg(&self, sheet: &[u8], station: u64, numbers: &mut [i64]) -> Answer;
 }
 
 /// The static library, called by way of its Rust crate.
@@ -53,6 +55,10 @@ impl Side for Library {
 
     fn write(&self, line: &[u32], bytes: &mut [u8]) -> Answer {
         answer_of(pokyandi::write(line, bytes))
+    }
+
+    fn peg(&self, sheet: &[u8], station: u64, numbers: &mut [i64]) -> Answer {
+        answer_of(pokyandi::peg(sheet, station, numbers))
     }
 }
 
@@ -99,6 +105,10 @@ impl Side for Reference {
     fn write(&self, line: &[u32], bytes: &mut [u8]) -> Answer {
         line_numbers::write(line, bytes)
     }
+
+    fn peg(&self, sheet: &[u8], station: u64, numbers: &mut [i64]) -> Answer {
+        peg(&sheet::read(sheet)?, station, numbers)
+    }
 }
 
 /// The text of a sheet of any length. `report` looks at 707 bytes only, as the
@@ -108,6 +118,13 @@ pub fn text_of(sheet: &[u8]) -> String {
         Ok(_) => report(sheet),
         Err(refusal) => format!("{refusal}\n"),
     }
+}
+
+/// The elements of a sheet's line, from its start to its end; none where the
+/// sheet is refused.
+pub fn stretches_of(sheet: &[u8]) -> Vec<Stretch> {
+    let stretches = sheet::read(sheet).and_then(|line| stretches(&line));
+    stretches.unwrap_or_default()
 }
 
 #[cfg(test)]
@@ -176,6 +193,15 @@ mod tests {
         assert_eq!(bytes[21], 7);
         assert_eq!(side.write(&line, &mut bytes[..20]), refuse(16, 0));
         assert_eq!(side.write(&line[..9], &mut bytes), refuse(3, 0));
+
+        let [_, _, cs, _, end] = stations;
+        let mut peg = [7; 6];
+        assert_eq!(side.peg(&sheet, cs, &mut peg), Ok(5));
+        assert_eq!(peg, [3, 1, 40_000_000, 39_986_940, 761_727, 7]);
+        assert_eq!(side.peg(&sheet, end, &mut peg), Ok(5));
+        assert_eq!(peg, [0, 1, 219_010_722, 0, 0, 7]);
+        assert_eq!(side.peg(&sheet, end, &mut peg[..4]), refuse(16, 0));
+        assert_eq!(side.peg(&sheet, end + 1, &mut peg[..4]), refuse(17, 0));
     }
 
     #[test]

@@ -4,8 +4,11 @@ use crate::compare::Comparison;
 use crate::input::{Call, Input};
 use reference::line::MOST_CURVES;
 
-/// Accepted, and the refusals 1 to 16.
-const OUTCOMES: usize = 17;
+/// Accepted, and the refusals 1 to 17.
+const OUTCOMES: usize = 18;
+
+/// The last refusal that a text tells.
+const MOST_TOLD: usize = 15;
 
 /// Inputs from which on every refusal must have occurred.
 const ENOUGH: u64 = 20_000;
@@ -57,7 +60,7 @@ impl Tally {
                 missing.push(format!("{name} {}", outcome_name(outcome)));
             }
         }
-        for told in (0..=15).filter(|told| self.told[*told] == 0) {
+        for told in (0..=MOST_TOLD).filter(|told| self.told[*told] == 0) {
             missing.push(format!("text telling {}", outcome_name(told)));
         }
         missing
@@ -86,7 +89,7 @@ impl Tally {
         let mut counts: Vec<String> = calls
             .map(|(call, counts)| column(can_give(call, outcome), counts[outcome]))
             .collect();
-        counts.push(column(outcome != 16, self.told[outcome]));
+        counts.push(column(outcome <= MOST_TOLD, self.told[outcome]));
         counts
     }
 }
@@ -170,17 +173,21 @@ mod tests {
         line[0] = 64;
         add(&mut tally, Request::Write(line.clone()), Ok(706), None);
         add(&mut tally, Request::Write(line), refuse(8, 3), None);
+        let peg = Request::Peg(vec![0x18, 0x00], 0);
+        add(&mut tally, peg.clone(), Ok(5), None);
+        add(&mut tally, peg, refuse(17, 0), None);
         for (name, expected) in [
-            ("accepted ", "1 0 0 0 2 0 1 1"),
-            ("accepted, 64", "1 0 0 - 1 0 1"),
-            ("refused 8", "0 0 0 - - 0 1 1"),
-            ("refused 7", "0 0 0 - - 0 - 0"),
-            ("refused 16", "1 - 0 0 0 0 0 -"),
-            ("all", "2 0 0 0 2 0 2 2"),
+            ("accepted ", "1 0 0 0 2 0 1 1 1"),
+            ("accepted, 64", "1 0 0 - 1 0 1 1"),
+            ("refused 8", "0 0 0 - - 0 1 0 1"),
+            ("refused 7", "0 0 0 - - 0 - 0 0"),
+            ("refused 16", "1 - 0 0 0 0 0 0 -"),
+            ("refused 17", "- - - - - - - 1 -"),
+            ("all", "2 0 0 0 2 0 2 2 2"),
         ] {
             assert_eq!(columns(&tally, name).join(" "), expected);
         }
-        assert_eq!(tally.total(), 6);
+        assert_eq!(tally.total(), 8);
     }
 
     #[test]
@@ -196,14 +203,17 @@ mod tests {
         tally.answered[Call::Write as usize][7] = 0;
         tally.answered[Call::Write as usize][3] = 0;
         tally.answered[Call::Read as usize][0] = 0;
+        tally.answered[Call::Peg as usize][17] = 0;
         tally.told[3] = 0;
         tally.told[16] = 0;
+        tally.told[17] = 0;
         assert_eq!(
             tally.missing(),
             [
                 "elements refused 14",
                 "read accepted",
                 "write refused 3",
+                "peg refused 17",
                 "text telling refused 3"
             ]
         );

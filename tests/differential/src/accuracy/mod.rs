@@ -1,5 +1,6 @@
 //! Watches the accuracy claim (document 01, Clerk's sums): the library's own
-//! stations and elements against the exact ones, which are fractions.
+//! stations, elements and offsets on spirals against the exact ones, which are
+//! fractions.
 
 mod lines;
 mod record;
@@ -52,7 +53,7 @@ fn report(seed: u64, index: u64, line: &Line, broken: &str) -> String {
 mod tests {
     use super::*;
     use crate::side::Library;
-    use crate::spoilt::Spoilt;
+    use crate::spoilt::{Change, Spoilt};
     use reference::refusal::refuse;
 
     #[test]
@@ -75,6 +76,29 @@ mod tests {
         let report = watch(&library, 1, 8).unwrap_err();
         assert!(report.starts_with("broken       "), "{report}");
         assert!(report.contains("\nsheet "), "{report}");
+    }
+
+    #[test]
+    fn moved_offsets_are_reported() {
+        let moved: [Change<i64>; 2] = [
+            |answer, numbers| {
+                numbers[3] += 7;
+                answer
+            },
+            |answer, numbers| {
+                numbers[4] -= 7;
+                answer
+            },
+        ];
+        for (signed, name) in moved.into_iter().zip(["x", "y"]) {
+            let library = Spoilt {
+                signed,
+                ..Spoilt::NOT
+            };
+            let report = watch(&library, 1, 8).unwrap_err();
+            let start = format!("broken       peg {name} at ");
+            assert!(report.starts_with(&start), "{report}");
+        }
     }
 
     #[test]

@@ -13,8 +13,13 @@ pub fn table(watched: &Watched, seed: u64) -> String {
         "above",
         "the larger at",
     ]));
-    let stations = watched.stations.iter().chain(&watched.stations_over);
-    rows.extend(watched.elements.iter().chain(stations).map(difference_row));
+    let differences = [
+        &watched.elements[..],
+        &watched.offsets,
+        &watched.stations,
+        &watched.stations_over,
+    ];
+    rows.extend(differences.concat().iter().map(difference_row));
     rows.push(row(["exact length, mm", "bound", "nearest", "", "at"]));
     let lengths = [
         &watched.accepted_straight,
@@ -106,6 +111,7 @@ mod tests {
         let counts = "1 lines, seed 3: 1 accepted (0 of 64 curves), 0 refused 14, 0 refused 15; ";
         assert_eq!(words(counts), "1 curves of accepted lines");
         assert_eq!(words("TT "), "300 -0.932 0.000 177764 350000 40000");
+        assert!(words("peg x ").starts_with("4 -"));
         assert_eq!(words("CS / i "), "700 0.000 0.701 curve 1 of 1");
         assert_eq!(
             words("arc, accepted "),

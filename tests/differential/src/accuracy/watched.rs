@@ -1,13 +1,16 @@
 //! All quantities that are watched, and what a line adds to them.
 
 use super::record::{Claim, Differences, Lengths};
-use crate::side::Side;
+use crate::side::{Answer, Side};
 use reference::curve::Curve;
 use reference::exact::elements::{exact_arc, exact_elements, ExactElements};
 use reference::exact::fraction::Fraction;
+use reference::exact::pegs::exact_offsets;
 use reference::exact::stations::{exact_stations, exact_straights};
-use reference::line::{Line, MOST_CURVES};
+use reference::line::{Line, LEFT, MOST_CURVES};
+use reference::pegs::Element;
 use reference::refusal::Refusal;
+use reference::samples::dice::Dice;
 use reference::samples::sheet_fields::sheet_of;
 
 /// The elements and their bounds, µm (document 01, Clerk's sums).
@@ -19,6 +22,9 @@ const ELEMENTS: [(&str, u64); 6] = [
     ("D", 6),
     ("TT", 300),
 ];
+/// The offsets on a spiral and their bound, µm (document 02, Pegs along the line).
+const OFFSETS: [&str; 2] = ["peg x", "peg y"];
+const OFFSET_BOUND: u64 = 4;
 /// The stations of a curve, then the end.
 const STATIONS: [&str; 5] = ["TS", "SC", "CS", "ST", "END"];
 /// The same over the number of the curve.
@@ -41,6 +47,7 @@ pub struct Watched {
     pub refused_14: u64,
     pub refused_15: u64,
     pub elements: [Differences; 6],
+    pub offsets: [Differences; 2],
     pub stations: [Differences; 5],
     pub stations_over: [Differences; 5],
     pub accepted_straight: Lengths,
@@ -59,6 +66,7 @@ impl Watched {
             refused_14: 0,
             refused_15: 0,
             elements: ELEMENTS.map(|(name, bound)| Differences::new(name, Some(bound))),
+            offsets: OFFSETS.map(|name| Differences::new(name, Some(OFFSET_BOUND))),
             stations: STATIONS.map(|name| Differences::new(name, None)),
             stations_over: STATIONS_OVER.map(|name| Differences::new(name, Some(STATION_BOUND))),
             accepted_straight: Lengths::new("straight, accepted", Claim::Longer(4)),
@@ -97,6 +105,7 @@ impl Watched {
         for i in 1..=n {
             self.see_elements(library, line.curve(i))?;
         }
+        self.see_pegs(library, line, stations)?;
         self.see_accepted_lengths(line)
     }
 
@@ -149,6 +158,59 @@ impl Watched {
         Ok(())
     }
 
+    /// The pegs at either end of both spirals of each curve, and at a random
+    /// length, which follows from the line.
+    fn see_pegs(&mut self, library: &dyn Side, line: &Line, row: &[u64]) -> Result<(), String> {
+        let sheet = sheet_of(line);
+        let mut dice = Dice::new(row.iter().sum());
+        for (i, points) in (1..).zip(row.chunks_exact(4)) {
+            let whole = 1_000 * u64::from(line.curve(i).l);
+            if whole == 0 {
+                continue;
+            }
+            let [ts, st] = [points[0], points[3]];
+            let mut see = |element, station, length| {
+                let mut numbers = [0; pokyandi::PEG_NUMBERS];
+                let answer = library.peg(&sheet, station, &mut numbers);
+                self.see_peg(line, element, length, (answer, numbers))
+            };
+            for length in [0, dice.long(0, whole - 1), whole - 1] {
+                see(Element::SpiralIn(i), ts + length, length)?;
+            }
+            for length in [1, dice.long(1, whole), whole] {
+                see(Element::SpiralOut(i), st - length, length)?;
+            }
+        }
+        Ok(())
+    }
+
+    /// A peg, that should lie on this spiral at this length, µm.
+    fn see_peg(
+        &mut self,
+        line: &Line,
+        element: Element,
+        length: u64,
+        (answer, numbers): (Answer, [i64; pokyandi::PEG_NUMBERS]),
+    ) -> Result<(), String> {
+        let [kind, number, found, x, y] = numbers.map(i128::from);
+        let i = element.number();
+        let expected = [element.kind().into(), i as i128, length.into()];
+        if answer != Ok(numbers.len()) || [kind, number, found] != expected {
+            return Err(format!("{element:?} at {length}: {answer:?} {numbers:?}"));
+        }
+        let curve = line.curve(i);
+        let [exact_x, mut exact_y] = exact_offsets(curve, length);
+        if line.sides[i - 1] == LEFT {
+            exact_y = exact_y * -1;
+        }
+        let pairs = [(x, exact_x), (y, exact_y)];
+        for (seen, (offset, exact)) in self.offsets.iter_mut().zip(pairs) {
+            let at = || format!("{curve} at {length}");
+            seen.see(&difference(offset, &exact), at)?;
+        }
+        Ok(())
+    }
+
     fn see_accepted_lengths(&mut self, line: &Line) -> Result<(), String> {
         for (i, straight) in exact_straights(line).iter().enumerate() {
             self.accepted_straight
@@ -195,8 +257,8 @@ impl Watched {
 }
 
 /// A number of the library, µm, less an exact length, mm.
-fn difference(number: u64, exact: &Fraction) -> Fraction {
-    Fraction::from(number) - exact * 1_000
+fn difference(number: impl Into<Fraction>, exact: &Fraction) -> Fraction {
+    number.into() - exact * 1_000
 }
 
 /// The straight and how many curves the line has.
@@ -217,6 +279,7 @@ fn arc_place(line: &Line, i: usize) -> String {
 mod tests {
     use super::*;
     use crate::side::{Library, Reference};
+    use reference::line::RIGHT;
 
     fn close(a: f64, b: f64) -> bool {
         (a - b).abs() < 1e-8
@@ -237,6 +300,7 @@ mod tests {
         assert_eq!(counts, [2, 1, 1]);
         assert!(close(watched.elements[5].below, -0.931_612_491));
         assert!(close(watched.stations[0].above, 0.931_612_491));
+        assert!(watched.offsets[0].below <= -0.749_996_143);
         assert!(close(watched.stations_over[END].above, 1.632_580_558));
         let nearest = |lengths: &Lengths| lengths.nearest.clone().unwrap().0;
         assert!(close(nearest(&watched.refused_arc), -0.204_833_217));
@@ -261,6 +325,42 @@ mod tests {
             }
         }
         assert!(Watched::new().see_stations(&line, &row[..4]).is_err());
+    }
+
+    /// Case 1's peg at CS: its offsets lie 0.75 and 0.06 µm below the exact ones.
+    #[test]
+    fn moved_pegs_break_the_claims() {
+        let mut line = Line::case_1();
+        for side in [RIGHT, LEFT] {
+            line.sides[0] = side;
+            let y = if side == LEFT { -761_727 } else { 761_727 };
+            let sees = |numbers| {
+                let answer = (Ok(5), numbers);
+                let element = Element::SpiralOut(1);
+                let seen = Watched::new().see_peg(&line, element, 40_000_000, answer);
+                seen.is_ok()
+            };
+            let peg = [3, 1, 40_000_000, 39_986_940, y];
+            assert!(sees(peg));
+            for (index, moved, holds) in [
+                (3, 4, true),
+                (3, 5, false),
+                (3, -3, true),
+                (3, -4, false),
+                (4, 3, true),
+                (4, -3, true),
+                (4, 5, false),
+                (4, -5, false),
+                (4, -2 * y, false),
+                (0, -2, false),
+                (1, 1, false),
+                (2, 1, false),
+            ] {
+                let mut peg = peg;
+                peg[index] += moved;
+                assert_eq!(sees(peg), holds, "{index} {moved}");
+            }
+        }
     }
 
     #[test]

@@ -7,12 +7,14 @@ mod damage;
 mod lines;
 mod named;
 pub mod near_limits;
+mod pegs;
 mod sheets;
 
 use crate::input::{Input, Request, Room};
 use curves::any_curve;
 use lines::any_line;
 use named::{named_requests, NamedRequest};
+use pegs::any_peg;
 use reference::line::{Line, MOST_CURVES};
 use reference::samples::dice::Dice;
 use reference::samples::roads::road;
@@ -55,6 +57,13 @@ impl Inputs {
     /// The name of the input with this index, if it has one.
     pub fn name(&self, index: u64) -> Option<&str> {
         self.named_request(index).map(|named| named.name.as_str())
+    }
+
+    /// How many inputs are not random.
+    #[cfg(test)]
+    pub fn fixed(&self) -> u64 {
+        let sizes = self.sized.iter().map(|sized| sized.call().most_room() + 1);
+        (self.named.len() + sizes.sum::<usize>()) as u64
     }
 
     fn named_request(&self, index: u64) -> Option<&NamedRequest> {
@@ -108,14 +117,15 @@ fn any_request_and_room(dice: &mut Dice) -> (Request, Room) {
 }
 
 fn any_request(dice: &mut Dice) -> Request {
-    match dice.between(0, 29) {
+    match dice.between(0, 35) {
         0..=6 => Request::Stations(any_sheet(dice)),
         7..=8 => Request::Check(any_sheet(dice)),
         9..=12 => Request::Rewrite(any_sheet(dice)),
         13..=15 => Request::Elements(any_curve(dice)),
         16..=19 => Request::Text(any_sheet(dice)),
         20..=23 => Request::Read(any_sheet(dice)),
-        _ => Request::Write(any_line(dice)),
+        24..=29 => Request::Write(any_line(dice)),
+        _ => any_peg(dice),
     }
 }
 
@@ -139,20 +149,11 @@ mod tests {
     use crate::input::Call;
     use std::collections::BTreeSet;
 
-    /// How many inputs are not random.
-    fn fixed(inputs: &Inputs) -> u64 {
-        let sizes = inputs
-            .sized
-            .iter()
-            .map(|sized| sized.call().most_room() + 1);
-        (inputs.named.len() + sizes.sum::<usize>()) as u64
-    }
-
     #[test]
     fn same_inputs_for_the_same_seed() {
         let some = |seed| {
             let inputs = Inputs::of(seed);
-            let fixed = fixed(&inputs);
+            let fixed = inputs.fixed();
             let indexes = (0..200).chain(fixed - 100..fixed + 400);
             indexes
                 .map(|index| inputs.input(index))
@@ -182,7 +183,7 @@ mod tests {
     fn every_size_of_buffer() {
         let inputs = Inputs::of(1);
         let mut sizes = Call::ALL.map(|_| BTreeSet::new());
-        for index in inputs.named.len() as u64..fixed(&inputs) {
+        for index in inputs.named.len() as u64..inputs.fixed() {
             let input = inputs.input(index);
             sizes[input.request.call() as usize].insert(input.room_entries());
         }
@@ -190,7 +191,7 @@ mod tests {
             let every: BTreeSet<usize> = (0..=call.most_room()).collect();
             assert_eq!(sizes[call as usize], every);
         }
-        assert!(inputs.sized_request(fixed(&inputs)).is_none());
+        assert!(inputs.sized_request(inputs.fixed()).is_none());
     }
 
     #[test]

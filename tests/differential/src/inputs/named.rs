@@ -1,6 +1,7 @@
 //! The inputs with a name, the same for every seed: document 01's cases, and both
 //! sides of every check at several places, built from the reference's samples.
 
+use super::pegs;
 use crate::input::{Call, Request, Room};
 use reference::curve::Curve;
 use reference::line::{Line, MOST_CURVES};
@@ -32,6 +33,7 @@ pub fn named_requests() -> Vec<NamedRequest> {
         curves(),
         edges_of_the_writer(&mut dice),
         odd_lines(&mut dice),
+        pegs(&mut dice),
     ]
     .concat();
     let without_room = without_room(&requests);
@@ -39,29 +41,36 @@ pub fn named_requests() -> Vec<NamedRequest> {
 }
 
 /// Those that claim a refusal before 16 again, without any room: 16 comes last.
+/// The station of a peg then also lies beyond every line: 17 comes before it.
 fn without_room(requests: &[NamedRequest]) -> Vec<NamedRequest> {
     let refused_before_16 = |named: &&NamedRequest| {
         let refusals = named.sample.0.call().refusals();
         match named.claim {
             Claim::Refused(refusal) => {
-                refusal.number < 16 && refusals.contains(&refusal.number) && refusals.contains(&16)
+                refusal.number != 16 && refusals.contains(&refusal.number) && refusals.contains(&16)
             }
             _ => false,
         }
     };
     let refused = requests.iter().filter(refused_before_16).cloned();
-    refused
-        .map(
-            |Named {
-                 name,
-                 claim,
-                 sample,
-             }| {
-                let name = format!("{name}, no room");
-                named(name, claim, (sample.0, Room::Entries(0)))
-            },
-        )
-        .collect()
+    let mut without_room = Vec::new();
+    for Named {
+        name,
+        claim,
+        sample: (request, _),
+    } in refused
+    {
+        let (name, request) = match request {
+            Request::Peg(sheet, _) if claim != Claim::of(17, 0) => {
+                let name = format!("{name}, station {}", u64::MAX);
+                (name, Request::Peg(sheet, u64::MAX))
+            }
+            request => (name, request),
+        };
+        let name = format!("{name}, no room");
+        without_room.push(named(name, claim, (request, Room::Entries(0))));
+    }
+    without_room
 }
 
 /// The request that is made of a sample.
@@ -133,6 +142,12 @@ fn edges_of_the_writer(dice: &mut Dice) -> Vec<NamedRequest> {
         })
     });
     requests.collect()
+}
+
+/// Stations at the ends of elements and of lines, and rooms.
+fn pegs(dice: &mut Dice) -> Vec<NamedRequest> {
+    let edges = pegs::edges(dice).into_iter();
+    edges.map(|edge| request_of(edge, |peg| peg)).collect()
 }
 
 /// Numbers that are no line's: too few, too many, sides that are none, numbers
@@ -285,16 +300,25 @@ mod tests {
             curves().len(),
             edges_of_the_writer(&mut dice).len(),
             odd_lines(&mut dice).len(),
+            pegs(&mut dice).len(),
         ];
         // Of the calculator's 324 lines no sheet can hold 26; 7 rooms are too
         // small.
-        let of_the_calculator = (324 - 26) * 5 - 7 * 4;
-        let of_the_reader = (532 + 32) * 5;
+        let of_the_calculator = (324 - 26) * 6 - 7 * 5;
+        let of_the_reader = (532 + 32) * 6;
         assert_eq!(
             counts,
-            [31 * 5, of_the_reader, of_the_calculator, 8 + 469, 165, 93]
+            [
+                31 * 6,
+                of_the_reader,
+                of_the_calculator,
+                8 + 469,
+                165,
+                93,
+                1_656 + 8
+            ]
         );
-        let without_room = 1_909;
+        let without_room = 2_457;
         let all = counts.iter().sum::<usize>() + without_room;
         assert_eq!(named_requests().len(), all);
     }
@@ -322,12 +346,12 @@ mod tests {
     }
 
     /// Every refusal of every call is claimed; too small rooms only of the calls
-    /// of a line, the other calls have every size elsewhere.
+    /// of a line and of pegs, the other calls have every size elsewhere.
     #[test]
     fn every_refusal_is_claimed() {
         for call in Call::ALL {
             let mut expected: BTreeSet<u8> = call.refusals().into_iter().collect();
-            if !matches!(call, Call::Stations | Call::Write) {
+            if !matches!(call, Call::Stations | Call::Write | Call::Peg) {
                 expected.remove(&16);
             }
             let claimed: BTreeSet<u8> = named_requests()
