@@ -30,7 +30,11 @@ pub fn compare(job: Job, inputs: &Inputs) -> Result<(), String> {
 
 fn compare_road(
     task: Task,
-    Road { sheet, line }: &Road,
+    Road {
+        sheet,
+        line,
+        station,
+    }: &Road,
     library: &mut Library,
     reference: &mut Reference,
 ) -> Result<(), String> {
@@ -39,6 +43,7 @@ fn compare_road(
         Task::Write => same(library.write(line), reference.write(line)),
         Task::Rewrite => same(library.rewrite(sheet), reference.rewrite(sheet)),
         Task::Stations => same(library.stations(sheet), reference.stations(sheet)),
+        Task::Peg => same(library.peg(sheet, *station), reference.peg(sheet, *station)),
         Task::Check => same(library.check(sheet), reference.check(sheet)),
         Task::Text => same(library.text(sheet), reference.text(sheet)),
         Task::Elements => unreachable!("elements are compared by curve"),

@@ -1,9 +1,9 @@
-//! The sheets and curves that the jobs go through, the same in every run. All are
-//! accepted.
+//! The sheets, stations and curves that the jobs go through, the same in every
+//! run. All are accepted.
 
 use reference::curve::Curve;
 use reference::line::{Line, MOST_CURVES};
-use reference::report::row;
+use reference::pegs::stretches;
 use reference::samples::dice::Dice;
 use reference::samples::roads::road;
 use reference::samples::sheet_fields::sheet_of;
@@ -24,18 +24,20 @@ pub struct Inputs {
     pub curves: Vec<Curve>,
 }
 
-/// A sheet, and its line in numbers.
+/// A sheet, its line in numbers, and the station of its peg.
 pub struct Road {
     pub sheet: Vec<u8>,
     pub line: Vec<u32>,
+    pub station: u64,
 }
 
 impl Inputs {
     pub fn make() -> Inputs {
         let mut dice = Dice::new(SEED);
-        let mut full = vec![road_of(mountain_road())];
-        full.extend(random_roads(&mut dice, MOST_CURVES, FULL_SHEETS - 1));
-        let single = random_roads(&mut dice, 1, SINGLE_SHEETS);
+        let mut full = vec![mountain_road()];
+        full.extend(random_sheets(&mut dice, MOST_CURVES, FULL_SHEETS - 1));
+        let full = roads_of(full);
+        let single = roads_of(random_sheets(&mut dice, 1, SINGLE_SHEETS));
         let curves = full.iter().flat_map(|road| line_of(&road.sheet).curves);
         Inputs {
             curves: curves.collect(),
@@ -62,18 +64,66 @@ pub fn mountain_road() -> Vec<u8> {
     named.expect("the samples have the mountain road").sheet
 }
 
-fn random_roads(dice: &mut Dice, curves: usize, count: usize) -> Vec<Road> {
-    (0..count)
-        .map(|_| road_of(sheet_of(&road(dice, curves))))
-        .collect()
+fn random_sheets(dice: &mut Dice, curves: usize, count: usize) -> Vec<Vec<u8>> {
+    (0..count).map(|_| sheet_of(&road(dice, curves))).collect()
 }
 
-fn road_of(sheet: Vec<u8>) -> Road {
-    row(&sheet).expect("the road is accepted");
-    let line = line_of(&sheet).numbers();
-    Road { sheet, line }
+fn roads_of(sheets: Vec<Vec<u8>>) -> Vec<Road> {
+    let roads = sheets.into_iter().enumerate();
+    roads.map(|(i, sheet)| road_of(i, sheet)).collect()
+}
+
+fn road_of(i: usize, sheet: Vec<u8>) -> Road {
+    let line = line_of(&sheet);
+    Road {
+        sheet,
+        station: station_of(i, &line),
+        line: line.numbers(),
+    }
+}
+
+/// The middle of an element of the line that is road `i`: five eighths of the
+/// elements further than on the road before, so that all kinds have their turn, at
+/// the beginning of a line as at its end.
+fn station_of(i: usize, line: &Line) -> u64 {
+    let mut elements = stretches(line).expect("the road is accepted");
+    elements.retain(|element| element.begin < element.end);
+    let count = elements.len();
+    let element = elements[i * (5 * count / 8) % count];
+    (element.begin + element.end) / 2
 }
 
 fn line_of(sheet: &[u8]) -> Line {
     read(sheet).expect("the sheet is accepted")
+}
+
+#[cfg(test)]
+mod tests {
+    use super::*;
+    use reference::pegs::peg_under;
+
+    /// Each kind on a tenth of the roads at least; of the long ones in each
+    /// quarter of the line.
+    #[test]
+    fn pegs_of_every_kind_all_over_the_line() {
+        let inputs = Inputs::make();
+        let mut quarters = [0; 4];
+        for roads in [&inputs.full, &inputs.single] {
+            let mut kinds = [0; 4];
+            for road in roads {
+                let element = peg_under(&line_of(&road.sheet), road.station)
+                    .expect("the station is on the line")
+                    .element;
+                kinds[element.kind() as usize] += 1;
+                if road.line[0] as usize == MOST_CURVES {
+                    quarters[4 * element.number() / (MOST_CURVES + 1)] += 1;
+                }
+            }
+            assert!(
+                kinds.iter().all(|times| 10 * times >= roads.len()),
+                "{kinds:?}"
+            );
+        }
+        assert!(quarters.iter().all(|times| *times >= 5), "{quarters:?}");
+    }
 }

@@ -12,6 +12,7 @@ pub enum Task {
     Write,
     Rewrite,
     Stations,
+    Peg,
     Check,
     Text,
     Elements,
@@ -34,7 +35,7 @@ pub struct Job {
     size: Size,
 }
 
-pub const JOBS: [Job; 13] = [
+pub const JOBS: [Job; 15] = [
     full("read-64", "read, 64 curves", Task::Read),
     full("write-64", "written, 64 curves", Task::Write),
     full("rewrite-64", "read and written, 64 curves", Task::Rewrite),
@@ -43,12 +44,14 @@ pub const JOBS: [Job; 13] = [
         "read and calculated, 64 curves",
         Task::Stations,
     ),
+    full("peg-64", "read, peg calculated, 64 curves", Task::Peg),
     full("check-64", "checked, 64 curves (*)", Task::Check),
     full("text-64", "text, 64 curves", Task::Text),
     single("read-1", "read, 1 curve", Task::Read),
     single("write-1", "written, 1 curve", Task::Write),
     single("rewrite-1", "read and written, 1 curve", Task::Rewrite),
     single("stations-1", "read and calculated, 1 curve", Task::Stations),
+    single("peg-1", "read, peg calculated, 1 curve", Task::Peg),
     single("check-1", "checked, 1 curve (*)", Task::Check),
     single("text-1", "text, 1 curve", Task::Text),
     full("elements", "elements of one curve", Task::Elements),
@@ -73,6 +76,10 @@ const fn single(name: &'static str, title: &'static str, task: Task) -> Job {
         size,
     }
 }
+
+/// A peg beside the stations of the same sheets.
+pub const PEG_BESIDE_STATIONS: [[&str; 2]; 2] =
+    [["peg-64", "stations-64"], ["peg-1", "stations-1"]];
 
 impl Job {
     /// The job with this name.
@@ -115,13 +122,19 @@ fn each_curve<S: Side>(side: &mut S, inputs: &Inputs) {
 }
 
 fn each_road<S: Side>(task: Task, side: &mut S, roads: &[Road]) {
-    for Road { sheet, line } in roads {
+    for Road {
+        sheet,
+        line,
+        station,
+    } in roads
+    {
         let sheet = black_box(&sheet[..]);
         match task {
             Task::Read => keep(side.read(sheet)),
             Task::Write => keep(side.write(black_box(line))),
             Task::Rewrite => keep(side.rewrite(sheet)),
             Task::Stations => keep(side.stations(sheet)),
+            Task::Peg => keep(side.peg(sheet, black_box(*station))),
             Task::Check => keep(side.check(sheet)),
             Task::Text => keep(side.text(sheet)),
             Task::Elements => unreachable!("elements are worked out by curve"),

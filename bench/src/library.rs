@@ -1,13 +1,15 @@
 //! The proved library.
 
 use crate::side::{Answer, Refused, Side};
-use pokyandi::{Refusal, ELEMENT_NUMBERS, LINE_NUMBERS, ROW_NUMBERS, SHEET_BYTES, TEXT_BYTES};
+use pokyandi::{Refusal, ELEMENT_NUMBERS, LINE_NUMBERS, PEG_NUMBERS};
+use pokyandi::{ROW_NUMBERS, SHEET_BYTES, TEXT_BYTES};
 use reference::curve::Curve;
 
 pub struct Library {
     line: [u32; LINE_NUMBERS],
     bytes: [u8; SHEET_BYTES],
     row: [u64; ROW_NUMBERS],
+    peg: [i64; PEG_NUMBERS],
     text: [u8; TEXT_BYTES],
     elements: [u64; ELEMENT_NUMBERS],
 }
@@ -18,6 +20,7 @@ impl Library {
             line: [0; LINE_NUMBERS],
             bytes: [0; SHEET_BYTES],
             row: [0; ROW_NUMBERS],
+            peg: [0; PEG_NUMBERS],
             text: [0; TEXT_BYTES],
             elements: [0; ELEMENT_NUMBERS],
         }
@@ -52,6 +55,11 @@ impl Side for Library {
     fn stations(&mut self, sheet: &[u8]) -> Answer<&[u64]> {
         let count = pokyandi::stations(sheet, &mut self.row)?;
         Ok(&self.row[..count])
+    }
+
+    fn peg(&mut self, sheet: &[u8], station: u64) -> Answer<&[i64]> {
+        let count = pokyandi::peg(sheet, station, &mut self.peg)?;
+        Ok(&self.peg[..count])
     }
 
     fn check(&mut self, sheet: &[u8]) -> Answer<usize> {

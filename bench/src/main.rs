@@ -17,7 +17,7 @@ mod table;
 use arguments::{Options, Request, USAGE};
 use compare::{compare, largest_baseline_difference};
 use inputs::Inputs;
-use job::{work, work_baseline, Job, Task, JOBS};
+use job::{work, work_baseline, Job, Task, JOBS, PEG_BESIDE_STATIONS};
 use library::Library;
 use measure::{alternate, time, Work};
 use reference_side::Reference;
@@ -91,7 +91,7 @@ fn measure_all(options: &Options) -> Result<(), String> {
         None => None,
     };
     print_notes(&inputs, process, rates);
-    Ok(())
+    print_peg_ratios(options, &inputs)
 }
 
 fn print_preface(options: &Options, inputs: &Inputs) {
@@ -115,6 +115,24 @@ fn print_notes(inputs: &Inputs, process: Option<f64>, rates: Option<String>) {
     }
     let difference = largest_baseline_difference(inputs);
     println!("C f64: plain C with libm, no checks; at most {difference:.1} µm from the library.");
+}
+
+/// The time of a peg over that of the stations of the same sheets.
+fn print_peg_ratios(options: &Options, inputs: &Inputs) -> Result<(), String> {
+    println!("Peg / stations of the same sheets, library alone:");
+    for names in PEG_BESIDE_STATIONS {
+        let [peg, stations] = names.map(|name| Job::named(name).expect("it is a job"));
+        let times = times_of_a_round(stations, options, inputs)?;
+        let library = |job| {
+            let mut library = Library::new();
+            sure(move || work(job, &mut library, inputs, times))
+        };
+        let mut works = [library(peg), library(stations)];
+        let calls = times * stations.input_count(inputs);
+        let results = alternate(options.rounds(), calls, &mut works)?;
+        table::print_ratio(names[0], &results[0], &results[1]);
+    }
+    Ok(())
 }
 
 /// Times a job whose answers have been compared.

@@ -7,6 +7,7 @@ use pokyandi::{LINE_NUMBERS, ROW_NUMBERS, SHEET_BYTES};
 use reference::curve::Curve;
 use reference::elements::{elements, Elements};
 use reference::line_numbers;
+use reference::pegs::{peg, PEG_NUMBERS};
 use reference::refusal::Refusal;
 use reference::report::report;
 use reference::sheet;
@@ -16,6 +17,7 @@ pub struct Reference {
     line: [u32; LINE_NUMBERS],
     bytes: [u8; SHEET_BYTES],
     row: [u64; ROW_NUMBERS],
+    peg: [i64; PEG_NUMBERS],
     text: String,
     elements: Elements,
 }
@@ -26,6 +28,7 @@ impl Reference {
             line: [0; LINE_NUMBERS],
             bytes: [0; SHEET_BYTES],
             row: [0; ROW_NUMBERS],
+            peg: [0; PEG_NUMBERS],
             text: String::new(),
             elements: Elements {
                 x: 0,
@@ -69,6 +72,12 @@ impl Side for Reference {
         let line = sheet::read(sheet)?;
         let count = stations(&line, &mut self.row)?;
         Ok(&self.row[..count])
+    }
+
+    fn peg(&mut self, sheet: &[u8], station: u64) -> Answer<&[i64]> {
+        let line = sheet::read(sheet)?;
+        let count = peg(&line, station, &mut self.peg)?;
+        Ok(&self.peg[..count])
     }
 
     fn check(&mut self, sheet: &[u8]) -> Answer<usize> {

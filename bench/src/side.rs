@@ -26,6 +26,9 @@ pub trait Side {
     /// The sheet's stations, µm.
     fn stations(&mut self, sheet: &[u8]) -> Answer<&[u64]>;
 
+    /// The element under a station, µm, and its offsets.
+    fn peg(&mut self, sheet: &[u8], station: u64) -> Answer<&[i64]>;
+
     /// How many stations the sheet has.
     fn check(&mut self, sheet: &[u8]) -> Answer<usize>;
 

@@ -21,3 +21,10 @@ pub fn print_row(title: &str, library: &Times, reference: &Times, third: Option<
     );
     println!("{}", row.trim_end());
 }
+
+/// The ratio of the medians, and the middle half of the ratios by round.
+pub fn print_ratio(name: &str, times: &Times, others: &Times) {
+    let (low, high) = times.ratio_quartiles(others);
+    let ratio = times.median() / others.median();
+    println!("  {name}: {ratio:.2}, its middle half {low:.2} to {high:.2}");
+}
