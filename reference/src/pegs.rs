@@ -193,6 +193,7 @@ mod tests {
     use crate::line::RIGHT;
     use crate::samples::dice::Dice;
     use crate::samples::limits::greatest_spiral;
+    use crate::samples::peg_edges::{ROUNDED_CURVE, ROUNDED_LENGTHS};
     use crate::samples::roads::road;
     use crate::search::random_curve;
     use Element::{Arc, SpiralIn, SpiralOut, Straight};
@@ -346,6 +347,19 @@ mod tests {
             assert_eq!(offsets(curve, length), (found.x, found.y), "{curve}");
             assert_eq!(offsets(curve, 0), (0, 0));
         }
+    }
+
+    /// The numbers are worked by another program; every rounding counts in them.
+    #[test]
+    fn roundings_of_the_offsets() {
+        let expected = [
+            (367_120_821, 32_801_313),
+            (409_293_131, 45_878_991),
+            (435_821_418, 55_822_928),
+            (485_777_290, 78_863_928),
+        ];
+        let found = ROUNDED_LENGTHS.map(|length| offsets(ROUNDED_CURVE, length));
+        assert_eq!(found, expected);
     }
 
     #[test]

@@ -9,6 +9,7 @@ pub mod limits;
 pub mod line_edges;
 pub mod lines;
 pub mod named;
+pub mod peg_edges;
 pub mod ranges;
 pub mod roads;
 pub mod sheet_edges;

@@ -1,7 +1,6 @@
 //! The inputs with a name, the same for every seed: document 01's cases, and both
 //! sides of every check at several places, built from the reference's samples.
 
-use super::pegs;
 use crate::input::{Call, Request, Room};
 use reference::curve::Curve;
 use reference::line::{Line, MOST_CURVES};
@@ -10,9 +9,10 @@ use reference::samples::curves;
 use reference::samples::dice::Dice;
 use reference::samples::line_edges;
 use reference::samples::named::{named, Claim, Named};
+use reference::samples::peg_edges;
 use reference::samples::roads::road;
 use reference::samples::sheet_edges;
-use reference::samples::sheet_fields::sheet_of_any;
+use reference::samples::sheet_fields::{sheet_of, sheet_of_any};
 use reference::samples::station_cases::named_sheets;
 use reference::samples::station_sheets::full_length_edges;
 use reference::samples::writer_edges;
@@ -144,10 +144,15 @@ fn edges_of_the_writer(dice: &mut Dice) -> Vec<NamedRequest> {
     requests.collect()
 }
 
-/// Stations at the ends of elements and of lines, and rooms.
 fn pegs(dice: &mut Dice) -> Vec<NamedRequest> {
-    let edges = pegs::edges(dice).into_iter();
-    edges.map(|edge| request_of(edge, |peg| peg)).collect()
+    let edges = peg_edges::edges(dice).into_iter();
+    let requests = edges.map(|edge| {
+        request_of(edge, |call| {
+            let request = Request::Peg(sheet_of(&call.line), call.station);
+            (request, Room::Entries(call.room))
+        })
+    });
+    requests.collect()
 }
 
 /// Numbers that are no line's: too few, too many, sides that are none, numbers
@@ -315,10 +320,10 @@ mod tests {
                 8 + 469,
                 165,
                 93,
-                1_656 + 8
+                1_650 + 8 + 8
             ]
         );
-        let without_room = 2_457;
+        let without_room = 2_451;
         let all = counts.iter().sum::<usize>() + without_room;
         assert_eq!(named_requests().len(), all);
     }
