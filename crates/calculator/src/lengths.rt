@@ -1,11 +1,10 @@
 // The lengths of a line's straights and arcs, in µm, with the calculator's checks 3 to 15.
 ghost use mathlib.Core.Path.{_≡_};
 ghost use Prim.Native.Nat.{suc};
-ghost use Rattle.refusals.specs.Table.{numberOf, placeOf};
-ghost use Rattle.refusals.specs.Outcomes.{refused, outcomeOf};
-ghost use Rattle.refusals.specs.Order.{_⨾_, inTurn, outcome};
+ghost use Rattle.refusals.specs.Outcomes.{outcomeOf};
+ghost use Rattle.refusals.specs.Order.{inTurn, outcome};
 ghost use Rattle.line.specs.Ranges.{LineInRange};
-ghost use Rattle.stationing.specs.Answer.{designChecksAt, straightCheck, alignmentChecks};
+ghost use Rattle.stationing.specs.Answer.{straightCheck, alignmentChecks};
 ghost use Rattle.stationing.specs.Arrays.{TangentsTo, ArcsTo};
 ghost use Rattle.calculator.specs.Lengths.{noLengths, lengthsOf, lengthsBy, lengthsAfter, LengthsChecked, CurvesOf};
 use crate::LineLengths;
@@ -73,12 +72,11 @@ fn curve_lengths(line: Line) -> CurveLengths
 }
 
 // A refusal, with no lengths.
-fn no_lengths(refusal: Refusal) -> LineLengths
-    ensures { λ l. ⌜ outcomeOf (l .verdict) ≡ refused (numberOf refusal) (placeOf refusal) ⌝ }
-    ensures { λ l. ⌜ lengthsOf l ≡ noLengths ⌝ }
+fn no_lengths(verdict: Verdict) -> LineLengths
+    ensures { λ l. ⌜ (l .verdict ≡ verdict) × (lengthsOf l ≡ noLengths) ⌝ }
 {
     LineLengths {
-        verdict: Verdict::Refused(refusal),
+        verdict,
         straights: [0; 65],
         arcs: [0; 64],
     }
@@ -99,7 +97,7 @@ fn with_straights(line: Line, curves: CurveLengths) -> LineLengths
         let distance = 1000 * (line.distances[i] as u64);
         let ends = before + after;
         if distance < ends + 1000 {
-            return no_lengths(Refusal::ShortStraight(i as u16));
+            return no_lengths(Verdict::Refused(Refusal::ShortStraight(i as u16)));
         }
         straights[i] = distance - ends;
         before = after;
@@ -112,19 +110,6 @@ fn with_straights(line: Line, curves: CurveLengths) -> LineLengths
     }
 }
 
-// Refusals 12 to 15 of a line whose fields are in range, and its lengths.
-fn lengths_in_range(line: Line) -> LineLengths
-    requires { ⌜ LineInRange line ⌝ }
-    ensures { λ l. ⌜ LengthsChecked (inTurn (designChecksAt line) (line .count) ⨾ inTurn (straightCheck line) (suc (line .count))) line l ⌝ }
-{
-    let curves = curve_lengths(line);
-    let verdict = curves.verdict;
-    match verdict {
-        Verdict::Refused(refusal) => no_lengths(refusal),
-        Verdict::Pass => with_straights(line, curves),
-    }
-}
-
 // The lengths of a line's straights and arcs by document 01's working rule, in µm, beside the verdict of the calculator's checks: the first
 // refusal in the order 3 to 6, 8 to 11, then 12, 13, 14 curve by curve, then 15 by ascending distance. After a refusal, and in unused
 // entries, the lengths are 0. Any line is taken; unused entries and the sides of the curves change nothing.
@@ -132,9 +117,14 @@ pub fn line_lengths(line: Line) -> LineLengths
     ensures verdict { λ l. ⌜ outcomeOf (l .verdict) ≡ outcome (alignmentChecks line) ⌝ }
     ensures lengths { λ l. ⌜ lengthsOf l ≡ lengthsAfter (outcome (alignmentChecks line)) (lengthsBy line) ⌝ }
 {
-    let verdict = check_line(line);
-    match verdict {
-        Verdict::Refused(refusal) => no_lengths(refusal),
-        Verdict::Pass => lengths_in_range(line),
-    }
+    let fields = check_line(line);
+    let Verdict::Pass = fields else {
+        return no_lengths(fields);
+    };
+    let curves = curve_lengths(line);
+    let designs = curves.verdict;
+    let Verdict::Pass = designs else {
+        return no_lengths(designs);
+    };
+    with_straights(line, curves)
 }
