@@ -5,6 +5,7 @@ ghost use lib.ListN.{length};
 ghost use Rattle.refusals.specs.Outcomes.{passed, outcomeOf};
 ghost use Rattle.refusals.specs.Order.{outcome};
 ghost use Rattle.bits.specs.Bits.{valuesAt};
+ghost use Rattle.line.specs.Entries.{blankLine};
 ghost use Rattle.packed_sheet.specs.Layout.{firstEdition, curveWidths};
 ghost use Rattle.packed_sheet.specs.Reading.{headOf, curveFrom, sizeChecks, frameChecks, lineOf, readChecks, readLine};
 ghost use Rattle.packed_sheet.specs.Writing.{sheetOf};
@@ -124,6 +125,16 @@ fn read_line(sheet: &[u8], head: Head) -> Line
     line
 }
 
+// A refusal, with no line.
+fn no_line(verdict: Verdict) -> ReadAnswer
+    ensures { λ r. ⌜ (r .verdict ≡ verdict) × (r .line ≡ blankLine) ⌝ }
+{
+    ReadAnswer {
+        verdict,
+        line: blank_line(),
+    }
+}
+
 // The line of a sheet, its unused entries zero, or the first refusal in document 01's order: 1 (seven bytes), 2, 3, 4, 5, 6,
 // 1 (full length), 7, then 8 to 11 in sheet order. Any bytes are taken. A sheet that is not refused is the sheet of its line.
 pub fn read(sheet: &[u8]) -> ReadAnswer
@@ -132,26 +143,17 @@ pub fn read(sheet: &[u8]) -> ReadAnswer
     ensures again { λ r. ⌜ (outcomeOf (r .verdict) ≡ passed → sheetOf firstEdition (r .line) ≡ now (sheet .entry)) ⌝ }
 {
     if sheet.len() < 7 {
-        return ReadAnswer {
-            verdict: Verdict::Refused(Refusal::Truncated),
-            line: blank_line(),
-        };
+        return no_line(Verdict::Refused(Refusal::Truncated));
     }
     let head = read_head(sheet);
     let frame = check_frame(sheet, head);
     let Verdict::Pass = frame else {
-        return ReadAnswer {
-            verdict: frame,
-            line: blank_line(),
-        };
+        return no_line(frame);
     };
     let line = read_line(sheet, head);
     let verdict = check_line(line);
     let Verdict::Pass = verdict else {
-        return ReadAnswer {
-            verdict,
-            line: blank_line(),
-        };
+        return no_line(verdict);
     };
     ReadAnswer { verdict, line }
 }

@@ -6,7 +6,7 @@ use native.Mathlib.Omega.{arith}
 use lib.IntN.{pos}
 use borrow.Author.Needs.{needs}
 use Rattle.numbers.proofs.Ranges.{at-most}
-use Rattle.refusals.specs.Outcomes.{passed, firstOf, outcomeOf}
+use Rattle.refusals.specs.Outcomes.{passed, firstOf}
 use Rattle.refusals.specs.Order.{inTurn, outcome}
 use Rattle.refusals.proofs.InTurn.{one-more, first-refused}
 use Rattle.stationing.specs.Stations.{tangentBefore}
@@ -75,17 +75,14 @@ add-if1 c =
 cast-t20 : tie.Need-cast-t20 Inv-loop μ-loop
 cast-t20 c = search needs
 
-no-lengths-requires : tie.Need-no-lengths-requires Inv-loop μ-loop
-no-lengths-requires c κs = tt
-
 returns : tie.Need-returns Inv-loop μ-loop
 returns c =
-    let start = c .before .before .before .before .before .before in
-    let loop = c .before .before .before .before .before .loop in
+    let start = c .before .before .before .before .before in
+    let loop = c .before .before .before .before .loop in
     let line = start .args .t1 in
-    let here : loop .i ≤ line .count = omega (arith, c .before .before .before .before .loop-test .taken) in
-    let short = short-straight line (loop .i) (loop .inv .3 here) (after-distance line _ (start .pre .1 .0) (loop .i) here) (c .before .if1 .taken) in
-    refused-lengths line (inTurn (straightCheck line) (suc (line .count))) (c .no-lengths .result) (ap outcomeOf (c .no-lengths .ensures .0)) (c .no-lengths .ensures .1)
+    let here : loop .i ≤ line .count = omega (arith, c .before .before .before .loop-test .taken) in
+    let short = short-straight line (loop .i) (loop .inv .3 here) (after-distance line _ (start .pre .1 .0) (loop .i) here) (c .if1 .taken) in
+    refused-lengths line (inTurn (straightCheck line) (suc (line .count))) _ refl refl
     (first-refused (straightCheck line) (loop .i) (suc (line .count)) (omega arith) (loop .inv .1) short)
 
 sub-straights : tie.Need-sub-straights Inv-loop μ-loop
@@ -144,7 +141,6 @@ with-straights-spec =
     add-ends
     add-if1
     cast-t20
-    no-lengths-requires
     returns
     sub-straights
     mul-straights

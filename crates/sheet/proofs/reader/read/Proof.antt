@@ -11,13 +11,13 @@ use Rattle.packed_sheet.proofs.WaysOut.{line-beside, frame-refused, line-checke
 use Rattle.sheet.proofs.reader.read.Statement.{statement}
 use Rattle.sheet.proofs.reader.read.Tie as tie
 
-blank-line-requires : tie.Need-blank-line-requires
-blank-line-requires c κs = search needs
+no-line-requires : tie.Need-no-line-requires
+no-line-requires c κs = search needs
 
 returns : tie.Need-returns
 returns c =
-    let answer = frame-refused firstEdition _ (Refused Truncated) (no-head firstEdition _ (c .before .if1 .taken)) refl in
-    let line-read = line-beside firstEdition _ (Refused Truncated) answer refl (c .blank-line .ensures) in
+    let answer = ap outcomeOf (c .no-line .ensures .0) ∙ frame-refused firstEdition _ (Refused Truncated) (no-head firstEdition _ (c .before .if1 .taken)) refl in
+    let line-read = line-beside firstEdition _ _ answer (c .no-line .ensures .0) (c .no-line .ensures .1) in
     (answer, (line-read, answer-again firstEdition _ (λ i. c .before .before .shared-slice-known .given i .fits) answer line-read))
 
 read-head-requires : tie.Need-read-head-requires
@@ -32,14 +32,14 @@ enum-told c = search needs
 enum-told-2 : tie.Need-enum-told-2
 enum-told-2 c = search needs
 
-blank-line-requires-2 : tie.Need-blank-line-requires-2
-blank-line-requires-2 c κs = search needs
+no-line-requires-2 : tie.Need-no-line-requires-2
+no-line-requires-2 c κs = search needs
 
 returns-2 : tie.Need-returns-2
 returns-2 c =
     let told = c .before .enum-told2 .given .1 in
-    let answer = frame-refused firstEdition _ _ (c .before .before .before .check-frame .ensures) told in
-    let line-read = line-beside firstEdition _ _ answer told (c .blank-line2 .ensures) in
+    let answer = ap outcomeOf (c .no-line2 .ensures .0) ∙ frame-refused firstEdition _ _ (c .before .before .before .check-frame .ensures) told in
+    let line-read = line-beside firstEdition _ _ answer (c .no-line2 .ensures .0 ∙ told) (c .no-line2 .ensures .1) in
     (answer, (line-read, answer-again firstEdition _ (λ i. c .before .before .before .before .before .before .shared-slice-known .given i .fits) answer line-read))
 
 read-line-requires : tie.Need-read-line-requires
@@ -54,15 +54,15 @@ enum-told-3 c = search needs
 enum-told-4 : tie.Need-enum-told-4
 enum-told-4 c = search needs
 
-blank-line-requires-3 : tie.Need-blank-line-requires-3
-blank-line-requires-3 c κs = search needs
+no-line-requires-3 : tie.Need-no-line-requires-3
+no-line-requires-3 c κs = search needs
 
 returns-3 : tie.Need-returns-3
 returns-3 c =
     let told = c .before .enum-told4 .given .1 in
     let answer =
-    line-checked firstEdition _ _ (c .before .before .before .before .before .before .before .check-frame .ensures) (c .before .before .before .before .before .enum-told .given .1) (c .before .before .before .before .read-line .ensures) (c .before .before .before .check-line .ensures) in
-    let line-read = line-beside firstEdition _ _ answer told (c .blank-line3 .ensures) in
+    ap outcomeOf (c .no-line3 .ensures .0) ∙ line-checked firstEdition _ _ (c .before .before .before .before .before .before .before .check-frame .ensures) (c .before .before .before .before .before .enum-told .given .1) (c .before .before .before .before .read-line .ensures) (c .before .before .before .check-line .ensures) in
+    let line-read = line-beside firstEdition _ _ answer (c .no-line3 .ensures .0 ∙ told) (c .no-line3 .ensures .1) in
     (answer, (line-read, answer-again firstEdition _ (λ i. c .before .before .before .before .before .before .before .before .before .before .shared-slice-known .given i .fits) answer line-read))
 
 returns-4 : tie.Need-returns-4
@@ -77,18 +77,18 @@ pub read-spec : {M : Type 1} → statement M
 read-spec =
     tie.close
     (tie.spec
-    blank-line-requires
+    no-line-requires
     returns
     read-head-requires
     check-frame-requires
     enum-told
     enum-told-2
-    blank-line-requires-2
+    no-line-requires-2
     returns-2
     read-line-requires
     check-line-requires
     enum-told-3
     enum-told-4
-    blank-line-requires-3
+    no-line-requires-3
     returns-3
     returns-4)
