@@ -7,7 +7,7 @@ ghost use Rattle.refusals.specs.Outcomes.{passed};
 ghost use Rattle.refusals.specs.Filling.{fillReplyOf, fill};
 ghost use Rattle.refusals.specs.Order.{unchecked, outcome};
 ghost use Rattle.stationing.specs.Stations.{stationRow};
-ghost use Rattle.stationing.specs.Answer.{alignmentChecks, stationCount, stationsIn};
+ghost use Rattle.stationing.specs.Answer.{alignmentChecks, stationsIn};
 ghost use Rattle.stationing.specs.Arrays.{fourFrom};
 ghost use Rattle.calculator.specs.Lengths.{lengthsOf, lengthsBy};
 use crate::LineLengths;
@@ -35,14 +35,18 @@ fn store_curve(row: &mut [u64], at: usize, former: u64, straight: u64, spiral: u
     st
 }
 
-// The stations of a line from its lengths.
-fn write_row(line: Line, lengths: LineLengths, row: &mut [u64])
+// Refusal 16, or the row of a line whose lengths are known.
+fn fill(line: Line, lengths: LineLengths, row: &mut [u64]) -> FillAnswer
     requires { ⌜ outcome (alignmentChecks line) ≡ passed ⌝ }
     requires { ⌜ lengthsOf lengths ≡ lengthsBy line ⌝ }
-    requires { ⌜ stationCount line ≤ length (now row) ⌝ }
-    ensures { λ _. ⌜ now (row .exit) ≡ stationRow line ++ drop (stationCount line) (now (row .entry)) ⌝ }
+    ensures { λ a. ⌜ fillReplyOf a ≡ fill unchecked (stationRow line) (now (row .entry)) .reply ⌝ }
+    ensures { λ _. ⌜ now (row .exit) ≡ fill unchecked (stationRow line) (now (row .entry)) .buffer ⌝ }
 {
     let n = line.count;
+    let count = 4 * n + 1;
+    if row.len() < count {
+        return FillAnswer::Refused(Refusal::SmallBuffer);
+    }
     let mut station = 1000 * (line.start as u64);
     let mut i = 0;
     while i < n {
@@ -58,20 +62,6 @@ fn write_row(line: Line, lengths: LineLengths, row: &mut [u64])
         i += 1;
     }
     row[4 * n] = station + lengths.straights[n];
-}
-
-// Refusal 16, or the row of a line whose lengths are known.
-fn fill(line: Line, lengths: LineLengths, row: &mut [u64]) -> FillAnswer
-    requires { ⌜ outcome (alignmentChecks line) ≡ passed ⌝ }
-    requires { ⌜ lengthsOf lengths ≡ lengthsBy line ⌝ }
-    ensures { λ a. ⌜ fillReplyOf a ≡ fill unchecked (stationRow line) (now (row .entry)) .reply ⌝ }
-    ensures { λ _. ⌜ now (row .exit) ≡ fill unchecked (stationRow line) (now (row .entry)) .buffer ⌝ }
-{
-    let count = 4 * line.count + 1;
-    if row.len() < count {
-        return FillAnswer::Refused(Refusal::SmallBuffer);
-    }
-    write_row(line, lengths, &mut *row);
     FillAnswer::Count(count)
 }
 
