@@ -19,11 +19,11 @@ use Rattle.stationing.specs.Answer.{designChecksAt, straightCheck, alignmentChe
 
 module _ (l m : Line) (alike : AlikeWhereUsed l m) where
   module _ (i : ℕ) (h : i < l .count) where
-    same-spiral : spiralAt l i ≡ spiralAt m i
+    pub same-spiral : spiralAt l i ≡ spiralAt m i
     unfolding spiralAt
     same-spiral = rw (alike .spiral i h)
 
-    same-arc : arcAt l i ≡ arcAt m i
+    pub same-arc : arcAt l i ≡ arcAt m i
     unfolding arcAt
     same-arc = rw (alike .deflection i h, alike .radius i h, alike .spiral i h)
 
@@ -50,7 +50,7 @@ module _ (l m : Line) (alike : AlikeWhereUsed l m) where
       go (yes h) = after-inside l i h ∙ same-tangent i h ∙ sym (after-inside m i (omega (arith, alike .count)))
       go (no h) = after-end l i (omega arith) ∙ sym (after-end m i (omega (arith, alike .count)))
 
-  same-straight : (i : ℕ) → i ≤ l .count → straightAt l i ≡ straightAt m i
+  pub same-straight : (i : ℕ) → i ≤ l .count → straightAt l i ≡ straightAt m i
   unfolding straightAt
   same-straight i h = rw (same-before i h, same-after i, alike .distance i h)
 
@@ -69,13 +69,13 @@ module _ (l m : Line) (alike : AlikeWhereUsed l m) where
       alike-in-turn (straightCheck l) (straightCheck m) (suc (l .count)) (λ i h. same-straight-check i (omega arith))
       ∙ ap (λ (n : ℕ). outcome (inTurn (straightCheck m) (suc n))) (alike .count)
 
-  same-checks : outcome (alignmentChecks l) ≡ outcome (alignmentChecks m)
+  pub same-checks : outcome (alignmentChecks l) ≡ outcome (alignmentChecks m)
   unfolding alignmentChecks
   same-checks = join (unused-ignored l m alike) (join same-curve-checks same-straight-checks)
 
   -- ---- the stations
 
-  same-former : (i : ℕ) → i ≤ l .count → formerST l i ≡ formerST m i
+  pub same-former : (i : ℕ) → i ≤ l .count → formerST l i ≡ formerST m i
   unfolding formerST
   same-former zero h = rw (alike .start)
   same-former (suc i) h = rw (same-former i (omega arith), same-straight i (omega arith), same-spiral i h, same-arc i h)

@@ -2,3 +2,6 @@
 pub mod Sides
 pub mod Walking
 pub mod Bounds
+pub mod OneElement
+pub mod Unused
+pub mod Examples

@@ -4,16 +4,19 @@ use mathlib.Core.Path.{_≡_, refl, sym, _∙_, ap}
 use mathlib.Core.List.{List, [], _∷_, _++_, map, append-assoc}
 use Prim.Native.Nat.{ℕ, zero, suc, _+_, _*_}
 use native.Mathlib.Omega.{arith}
-use lib.IntN.{ℤ, pos, _+ℤ_, +ℤ-assoc, +ℤ-idr}
+use lib.IntN.{ℤ, pos, _+ℤ_, +ℤ-assoc, +ℤ-idl, +ℤ-idr}
 use Rattle.line.specs.declared.Line.{Line}
 use Rattle.stationing.specs.Stations.{spiralAt, arcAt, straightAt, formerST, pointsAt, endOf, curveStations, stationsOf}
-use Rattle.stationing.specs.LineElements.{elementsFrom, elementsOf, total, lineLength, Placed, finish, placedFrom, placedElements}
+use Rattle.stationing.specs.LineElements.{Element, elementsFrom, elementsOf, total, lineLength, Placed, finish, placedFrom, placedElements}
 
 -- The station of the line's start, in µm.
 abbrev pub startStation : Line → ℤ
 startStation line = pos (1000 * line .start)
 
--- The station where an element ends.
+-- The stations where an element begins and ends.
+abbrev pub beginStation : Line → Placed → ℤ
+beginStation line p = startStation line +ℤ p .begin
+
 abbrev pub endStation : Line → Placed → ℤ
 endStation line p = startStation line +ℤ finish p
 
@@ -68,3 +71,23 @@ module _ (line : Line) where
   pub length-to-end : startStation line +ℤ lineLength line ≡ endOf line
   unfolding lineLength elementsOf formerST
   length-to-end = total-from 0 (line .count) (omega arith)
+
+-- Where elements one after the other begin, and the end, is where they start and where each ends.
+begins-and-ends : (s b : ℤ) (es : List Element)
+    → map (λ (p : Placed). s +ℤ p .begin) (placedFrom b es) ++ ((s +ℤ (b +ℤ total es)) ∷ [])
+    ≡ (s +ℤ b) ∷ map (λ (p : Placed). s +ℤ finish p) (placedFrom b es)
+unfolding placedFrom total
+begins-and-ends s b [] = ap (λ (z : ℤ). (s +ℤ z) ∷ []) (+ℤ-idr b)
+begins-and-ends s b (e ∷ es) =
+    ap (λ (z : ℤ). (s +ℤ b) ∷ map (λ (p : Placed). s +ℤ p .begin) (placedFrom (b +ℤ e .length) es) ++ ((s +ℤ z) ∷ [])) (sym (+ℤ-assoc b (e .length) (total es)))
+    ∙ ap (λ (zs : List ℤ). (s +ℤ b) ∷ zs) (begins-and-ends s (b +ℤ e .length) es)
+
+-- So the elements begin at the start, TS, SC, CS, ST of each curve in order, and what follows is the end.
+pub begins-are-stations : (line : Line) → map (beginStation line) (placedElements line) ++ (endOf line ∷ []) ≡ startStation line ∷ stationsOf line
+unfolding placedElements lineLength
+begins-are-stations line =
+    let start = startStation line in
+    let end : endOf line ≡ start +ℤ (pos 0 +ℤ total (elementsOf line)) = sym (length-to-end line) ∙ ap (λ (z : ℤ). start +ℤ z) (sym (+ℤ-idl (total (elementsOf line)))) in
+    ap (λ (z : ℤ). map (beginStation line) (placedElements line) ++ (z ∷ [])) end
+    ∙ begins-and-ends start (pos 0) (elementsOf line)
+    ∙ (λ j. +ℤ-idr start j ∷ ends-are-stations line j)

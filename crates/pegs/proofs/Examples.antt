@@ -1,0 +1,110 @@
+-- Pegs of document 01's case 1, and of a line that begins at 1,000 mm with a curve to the left and a simple curve, from the definitions. Assumes
+-- nothing.
+use mathlib.Core.Path.{_≡_, refl}
+use mathlib.Core.Bool.{Bool, true, false}
+use mathlib.Core.List.{List, [], _∷_, map}
+use Prim.Native.Nat.{ℕ, _+_}
+use lib.IntN.{ℤ, pos, negℤ}
+use Rattle.refusals.specs.Outcomes.{firstOf}
+use Rattle.refusals.specs.Replying.{Reply, answered, declined, reply}
+use Rattle.line.specs.declared.Curve.{Curve}
+use Rattle.line.specs.declared.Line.{Line}
+use Rattle.line.specs.Checks.{startCheck, headChecks, distanceCheck, curveChecks, bodyChecks, lineChecks}
+use Rattle.elements.specs.WorkingRule.{rounded, fullAngle, halfAngle, spiralAngle, term, alternating, sineOf, cosineOf, t2, t3, t4, unitX, unitY, spiralX, spiralY, centreOf, shiftOf, arcOf, tanOf, tangentOf}
+use Rattle.elements.specs.Answer.{arcCheck}
+use Rattle.elements.specs.SpiralPoint.{partTo, angleTo, offsetX, offsetY}
+use Rattle.stationing.specs.declared.ElementKind.{ElementKind}
+use Rattle.stationing.specs.declared.ElementKind.the-variants.{Straight, SpiralIn, Arc, SpiralOut}
+use Rattle.stationing.specs.RoadTables.{underSpeed, frictionAt, leastSpiralAt, radiusServes, spiralServes}
+use Rattle.stationing.specs.Stations.{spiralAt, arcAt, tangentAt, tangentBefore, tangentAfter, straightAt, formerST}
+use Rattle.stationing.specs.Answer.{designChecks, designChecksAt, straightCheck, alignmentChecks}
+use Rattle.stationing.specs.LineElements.{elementsFrom, elementsOf, total, lineLength, placedFrom, placedElements}
+use Rattle.stationing.proofs.Examples.{caseLine}
+use Rattle.pegs.specs.Pegs.{alongLine, holds, lastStraight, holding, elementUnder, PegValues, pegBy, stationCheck, pegChecks, pegReply}
+use Rattle.pegs.specs.Numbers.{kindNumber, pegNumbers}
+
+-- A peg, by its values.
+abbrev at : ElementKind → (number : ℕ) → (length x y : ℤ) → Reply PegValues
+at kind number length x y = answered (record { kind = kind; number = number; length = length; offsets = record { x = x; y = y } })
+
+-- One without offsets.
+abbrev plain : ElementKind → (number length : ℕ) → Reply PegValues
+plain kind number length = at kind number (pos length) (pos 0) (pos 0)
+
+-- Case 1.
+abbrev one : Line
+one = caseLine 500000 350000 40000
+
+-- V 70, e 8, start 1,000; a curve to the left, and one to the right without spirals.
+abbrev curve : Bool → (A L : ℕ) → Curve
+curve left A L = record { left = left; deflection = A; radius = 350000; spiral = L }
+
+abbrev two : Line
+two =
+    record {
+      speed = 70;
+      crossfall = 8;
+      start = 1000;
+      count = 2;
+      distances = 500000 ∷ 500000 ∷ 500000 ∷ [];
+      curves = curve true 177764 40000 ∷ curve false 100000 0 ∷ [];
+    }
+
+pub record Examples : Type 0 where
+  pub start : pegReply one 0 ≡ plain Straight 0 0
+  pub before-TS : pegReply one 319010721 ≡ plain Straight 0 319010721
+  pub at-TS : pegReply one 319010722 ≡ plain SpiralIn 1 0
+  pub half-way : pegReply one 339010722 ≡ at SpiralIn 1 (pos 20000000) (pos 19999591) (pos 95236)
+  pub before-SC : pegReply one 359010721 ≡ at SpiralIn 1 (pos 39999999) (pos 39986939) (pos 761727)
+  pub at-SC : pegReply one 359010722 ≡ plain Arc 1 0
+  pub before-CS : pegReply one 620649188 ≡ plain Arc 1 261638466
+  pub at-CS : pegReply one 620649189 ≡ at SpiralOut 1 (pos 40000000) (pos 39986940) (pos 761727)
+  pub half-way-back : pegReply one 640649189 ≡ at SpiralOut 1 (pos 20000000) (pos 19999591) (pos 95236)
+  pub before-ST : pegReply one 660649188 ≡ at SpiralOut 1 (pos 1) (pos 1) (pos 0)
+  pub at-ST : pegReply one 660649189 ≡ plain Straight 1 0
+  pub end : pegReply one 879659911 ≡ plain Straight 1 219010722
+  pub beyond : pegReply one 879659912 ≡ declined 17 0
+  -- ---- the second line
+  pub before-start : pegReply two 999999 ≡ declined 17 0
+  pub at-start : pegReply two 1000000 ≡ plain Straight 0 0
+  pub left-in : pegReply two 340010722 ≡ at SpiralIn 1 (pos 20000000) (pos 19999591) (negℤ (pos 95236))
+  pub left-out : pegReply two 641649189 ≡ at SpiralOut 1 (pos 20000000) (pos 19999591) (negℤ (pos 95236))
+  pub before-second : pegReply two 894115695 ≡ plain Straight 1 232466506
+  pub no-spiral-in : pegReply two 894115696 ≡ plain Arc 2 0
+  pub no-spiral-out : pegReply two 1063800484 ≡ plain Straight 2 0
+  pub second-end : pegReply two 1477256269 ≡ plain Straight 2 413455785
+  -- ---- refused lines, and a peg as numbers
+  pub fifteen-first : pegReply (caseLine 180990 350000 40000) 879659912 ≡ declined 15 0
+  pub kinds : map kindNumber (Straight ∷ SpiralIn ∷ Arc ∷ SpiralOut ∷ []) ≡ 0 ∷ 1 ∷ 2 ∷ 3 ∷ []
+  pub numbers : pegNumbers (record { kind = Arc; number = 7; length = pos 8; offsets = record { x = pos 9; y = pos 10 } })
+      ≡ pos 2 ∷ pos 7 ∷ pos 8 ∷ pos 9 ∷ pos 10 ∷ []
+
+pub examples : Examples
+unfolding firstOf startCheck headChecks distanceCheck curveChecks bodyChecks lineChecks rounded fullAngle halfAngle spiralAngle term alternating sineOf cosineOf t2 t3 t4 unitX unitY spiralX spiralY centreOf shiftOf arcOf tanOf tangentOf arcCheck underSpeed frictionAt leastSpiralAt radiusServes spiralServes spiralAt arcAt tangentAt tangentBefore tangentAfter straightAt formerST designChecks designChecksAt straightCheck alignmentChecks elementsFrom elementsOf total lineLength placedFrom placedElements partTo angleTo offsetX offsetY alongLine holds lastStraight holding elementUnder pegBy stationCheck pegChecks reply pegReply
+examples =
+    record {
+      start = refl;
+      before-TS = refl;
+      at-TS = refl;
+      half-way = refl;
+      before-SC = refl;
+      at-SC = refl;
+      before-CS = refl;
+      at-CS = refl;
+      half-way-back = refl;
+      before-ST = refl;
+      at-ST = refl;
+      end = refl;
+      beyond = refl;
+      before-start = refl;
+      at-start = refl;
+      left-in = refl;
+      left-out = refl;
+      before-second = refl;
+      no-spiral-in = refl;
+      no-spiral-out = refl;
+      second-end = refl;
+      fifteen-first = refl;
+      kinds = refl;
+      numbers = refl;
+    }
