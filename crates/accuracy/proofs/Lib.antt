@@ -7,10 +7,12 @@ pub mod Series
 pub mod PowerSeries
 pub mod SineAndCosine
 pub mod Angles
+pub mod UnitSpiral
 pub mod NearElements
 pub mod Ratio
 pub mod Tangent
 pub mod ElementsWithin
+pub mod OffsetsWithin
 pub mod NearStations
 pub mod Lengths
 pub mod StationsWithin

@@ -24,7 +24,7 @@ abbrev pub reach : Bound → ℕ
 reach b = b .most + b .short / 1000 + 1
 
 -- A quotient rounded up.
-abbrev up : ℕ → ℕ → ℕ
+abbrev pub up : ℕ → ℕ → ℕ
 up x m = (x + (m - 1)) / m
 
 -- Of a product over 10⁹ × c, rounded down.
@@ -101,6 +101,15 @@ module _ {p q : ℕ} {u v : Fraction} {a b : Bound} (c : ℕ) (above : zero < c)
             (up-enough (a .most * b .over + reach b * a .over) m m-above)
             (rw mul-assoc at (near-part c above (near-product (a .most) (reach b) (h .near) (k .near) (k .sign) (h .fits) (reaches k))));
       }
+
+-- A term over a constant, rounded down.
+abbrev pub over-constant : Bound → ℕ → Bound
+over-constant b c = record { most = b .most / c; short = up (b .short) c + 1000; over = up (b .over) c }
+
+pub near-quotient : {q : ℕ} {v : Fraction} {b : Bound} (c : ℕ) → zero < c → Term q v b
+    → Near scale (pos (q / c)) (v ⊘ c) (over-constant b c .short) (over-constant b c .over)
+near-quotient {b = b} c above h =
+    near-down c _ _ above (up-rounded (b .short) c above) (up-enough (b .over) c above) (near-part c above (h .near))
 
 -- Powers of the same angle.
 pub term-power : {p q : ℕ} (v : Fraction) {a b : Bound} (i j : ℕ) → minus (v .top) ≡ zero → Term p (v ↑ i) a → Term q (v ↑ j) b

@@ -43,13 +43,20 @@ exactCosine n v = alternatingSum (λ j. v ↑ (2 * j) ⊘ factorial (2 * j)) n
 abbrev pub documentTerms : ℕ
 documentTerms = 8
 
+-- "1 − s²/10 + s⁴/216" and "s/3 − s³/42": the end of the spiral of length one
+abbrev pub exactUnitX : Fraction → Fraction
+exactUnitX s = nat 1 ⊖ s ↑ 2 ⊘ 10 ⊕ s ↑ 4 ⊘ 216
+
+abbrev pub exactUnitY : Fraction → Fraction
+exactUnitY s = s ⊘ 3 ⊖ s ↑ 3 ⊘ 42
+
 -- "X = L(1 − s²/10 + s⁴/216)"
 unfoldable pub exactX : ℕ → ℕ → Fraction
-exactX R L = let s = exactSpiralAngle R L in nat L ⊗ (nat 1 ⊖ s ↑ 2 ⊘ 10 ⊕ s ↑ 4 ⊘ 216)
+exactX R L = nat L ⊗ exactUnitX (exactSpiralAngle R L)
 
 -- "Y = L(s/3 − s³/42)"
 unfoldable pub exactY : ℕ → ℕ → Fraction
-exactY R L = let s = exactSpiralAngle R L in nat L ⊗ (s ⊘ 3 ⊖ s ↑ 3 ⊘ 42)
+exactY R L = nat L ⊗ exactUnitY (exactSpiralAngle R L)
 
 -- "k = X − R × sine(s)"
 unfoldable pub exactCentre : ℕ → ℕ → ℕ → Fraction

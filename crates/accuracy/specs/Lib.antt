@@ -3,3 +3,4 @@ pub mod Fractions
 pub mod ExactElements
 pub mod ExactStations
 pub mod Accuracy
+pub mod ExactOffsets
