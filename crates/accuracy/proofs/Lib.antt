@@ -13,6 +13,7 @@ pub mod Ratio
 pub mod Tangent
 pub mod ElementsWithin
 pub mod OffsetsWithin
+pub mod PegsWithin
 pub mod NearStations
 pub mod Lengths
 pub mod StationsWithin

@@ -13,15 +13,24 @@ use Rattle.elements.specs.SpiralPoint.{partTo, angleTo, offsetX, offsetY, Offse
 use Rattle.elements.proofs.SpiralPoints.{part-most, at-outer-end}
 use Rattle.accuracy.specs.Fractions.{Fraction, whole, nat, _⊗_, _↑_, _⊘_}
 use Rattle.accuracy.specs.ExactElements.{exactSpiralAngle, exactUnitX, exactUnitY}
-use Rattle.accuracy.specs.ExactOffsets.{exactAngleTo, exactOffsetX, exactOffsetY, OffsetsWithin}
+use Rattle.accuracy.specs.ExactOffsets.{exactAngleTo, exactOffsetX, exactOffsetY, offsetTolerance, OffsetsWithin}
 use Rattle.accuracy.proofs.Parts.{plus, minus}
-use Rattle.accuracy.proofs.Nearness.{Near, Same, near-of, near-nat, near-multiple, near-part, near-down}
+use Rattle.accuracy.proofs.Nearness.{Near, Same, near-of, loosen, near-nat, near-multiple, near-part, near-down}
 use Rattle.accuracy.proofs.Powers.{part-top, part-under, same-naturals, power-top, power-under}
 use Rattle.accuracy.proofs.Terms.{Bound, Term, term-same, term-next}
 use Rattle.accuracy.proofs.Angles.{R-above, spiral}
 use Rattle.accuracy.proofs.UnitSpiral.{near-unit-x, near-unit-y}
 use Rattle.accuracy.proofs.NearElements.{near-rounded}
 use Rattle.accuracy.proofs.ElementsWithin.{within}
+
+-- More than any offset differs either way, in thousandths of a µm.
+abbrev pub offsetError : ℕ
+offsetError = 2084
+
+-- Both offsets are that near.
+pub record OffsetsNear (R L l : ℕ) : Type 0 where
+  pub x : Near 1000 (offsetX R L l) (exactOffsetX R L l) offsetError offsetError
+  pub y : Near 1000 (offsetY R L l) (exactOffsetY R L l) offsetError offsetError
 
 -- What is known of the part of the spiral up to a point, and of the angle there.
 abbrev partBound : Bound
@@ -133,24 +142,32 @@ near-nothing v =
     let top : (nat 0 ⊗ v ⊘ 1000) .top ≡ pos 0 = part-top (nat 0 ⊗ v) (lit< tt) ∙ zero-*ℤ (v .top) in
     near-of (ap plus top) (ap minus top) refl (record { holds = omega arith }) (record { holds = omega arith })
 
-at-the-outer-end : (R L : ℕ) → OffsetsWithin R L 0
+at-the-outer-end : (R L : ℕ) → OffsetsNear R L 0
 unfolding exactOffsetX exactOffsetY offsetsBy
 at-the-outer-end R L =
     let none = at-outer-end R L in
     let x : pos 0 ≡ offsetX R L 0 = sym (ap (λ (o : Offsets). o .x) none) in
     let y : pos 0 ≡ offsetY R L 0 = sym (ap (λ (o : Offsets). o .y) none) in
     record {
-      x = within 4 (subst (λ (z : ℤ). Near 1000 z (exactOffsetX R L 0) 0 0) x (near-nothing (exactUnitX (exactAngleTo R L 0)))) (lit≤ tt) (lit≤ tt);
-      y = within 4 (subst (λ (z : ℤ). Near 1000 z (exactOffsetY R L 0) 0 0) y (near-nothing (exactUnitY (exactAngleTo R L 0)))) (lit≤ tt) (lit≤ tt);
+      x = loosen (lit≤ tt) (lit≤ tt) (subst (λ (z : ℤ). Near 1000 z (exactOffsetX R L 0) 0 0) x (near-nothing (exactUnitX (exactAngleTo R L 0))));
+      y = loosen (lit≤ tt) (lit≤ tt) (subst (λ (z : ℤ). Near 1000 z (exactOffsetY R L 0) 0 0) y (near-nothing (exactUnitY (exactAngleTo R L 0))));
     }
 
-pub offsets-within : (A R L l : ℕ) → CurveInRange A R L → l ≤ 1000 * L → OffsetsWithin R L l
-offsets-within A R L l ok on = go (decLt 0 L)
+pub offsets-near : (A R L l : ℕ) → CurveInRange A R L → l ≤ 1000 * L → OffsetsNear R L l
+offsets-near A R L l ok on = go (decLt 0 L)
   where
-    go : Dec (zero < L) → OffsetsWithin R L l
+    go : Dec (zero < L) → OffsetsNear R L l
     go (yes above) =
         record {
-          x = within 4 (near-offset-x A R L l ok above on) (lit≤ tt) (lit≤ tt);
-          y = within 4 (near-offset-y A R L l ok above on) (lit≤ tt) (lit≤ tt);
+          x = loosen (lit≤ tt) (lit≤ tt) (near-offset-x A R L l ok above on);
+          y = loosen (lit≤ tt) (lit≤ tt) (near-offset-y A R L l ok above on);
         }
-    go (no none) = subst (OffsetsWithin R L) (let e : 0 ≡ l = omega arith in e) (at-the-outer-end R L)
+    go (no none) = subst (OffsetsNear R L) (let e : 0 ≡ l = omega arith in e) (at-the-outer-end R L)
+
+pub offsets-within : (A R L l : ℕ) → CurveInRange A R L → l ≤ 1000 * L → OffsetsWithin R L l
+offsets-within A R L l ok on =
+    let near = offsets-near A R L l ok on in
+    record {
+      x = within offsetTolerance (near .x) (lit≤ tt) (lit≤ tt);
+      y = within offsetTolerance (near .y) (lit≤ tt) (lit≤ tt);
+    }

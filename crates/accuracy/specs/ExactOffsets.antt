@@ -1,10 +1,18 @@
 -- Document 02, N1: "The accuracy rule now gives 4 µm for these offsets, against the clerk's l² / (2RL) angle at the same l." The radius R and the
 -- spiral length L are in mm, the length l in µm, the exact offsets in mm.
-use Prim.Native.Nat.{ℕ, _*_}
+use mathlib.Core.Bool.{Bool, true, false}
+use Prim.Native.Nat.{ℕ, _-_, _*_}
+use lib.IntN.{ℤ, natAbs}
 use Rattle.elements.specs.SpiralPoint.{offsetX, offsetY}
-use Rattle.accuracy.specs.Fractions.{Fraction, nat, _⊗_, _↑_, _⊘_}
+use Rattle.accuracy.specs.Fractions.{Fraction, nat, _⊖_, _⊗_, _↑_, _⊘_}
 use Rattle.accuracy.specs.ExactElements.{exactUnitX, exactUnitY}
 use Rattle.accuracy.specs.Accuracy.{Within}
+use Rattle.line.specs.declared.Curve.{Curve}
+use Rattle.line.specs.declared.Line.{Line}
+use Rattle.line.specs.Checks.{curveAt}
+use Rattle.stationing.specs.declared.ElementKind.{ElementKind}
+use Rattle.stationing.specs.declared.ElementKind.the-variants.{Straight, SpiralIn, Arc, SpiralOut}
+use Rattle.pegs.specs.Pegs.{PegValues}
 
 -- "l² / (2RL)", l in mm
 unfoldable pub exactAngleTo : ℕ → ℕ → ℕ → Fraction
@@ -24,3 +32,28 @@ offsetTolerance = 4
 pub record OffsetsWithin (R L l : ℕ) : Type 0 where
   pub x : Within offsetTolerance (offsetX R L l) (exactOffsetX R L l)
   pub y : Within offsetTolerance (offsetY R L l) (exactOffsetY R L l)
+
+-- ---- a peg
+
+-- "A left curve's y is negated."
+abbrev pub exactSided : Bool → Fraction → Fraction
+exactSided false y = y
+exactSided true y = nat 0 ⊖ y
+
+-- The exact offsets of a peg at the length l of an element: on a spiral those of its curve, "elsewhere 0"
+abbrev pub exactPegX : ElementKind → Curve → ℕ → Fraction
+exactPegX Straight curve l = nat 0
+exactPegX SpiralIn curve l = exactOffsetX (curve .radius) (curve .spiral) l
+exactPegX Arc curve l = nat 0
+exactPegX SpiralOut curve l = exactOffsetX (curve .radius) (curve .spiral) l
+
+abbrev pub exactPegY : ElementKind → Curve → ℕ → Fraction
+exactPegY Straight curve l = nat 0
+exactPegY SpiralIn curve l = exactSided (curve .left) (exactOffsetY (curve .radius) (curve .spiral) l)
+exactPegY Arc curve l = nat 0
+exactPegY SpiralOut curve l = exactSided (curve .left) (exactOffsetY (curve .radius) (curve .spiral) l)
+
+-- A peg of a line is that near, on the element and at the length that it names.
+pub record PegWithin (line : Line) (peg : PegValues) : Type 0 where
+  pub x : Within offsetTolerance (peg .offsets .x) (exactPegX (peg .kind) (curveAt line (peg .number - 1)) (natAbs (peg .length)))
+  pub y : Within offsetTolerance (peg .offsets .y) (exactPegY (peg .kind) (curveAt line (peg .number - 1)) (natAbs (peg .length)))

@@ -1,7 +1,7 @@
 -- Laws of the element under a station.
 pub mod Sides
 pub mod Walking
-pub mod Bounds
+pub mod PegsOfALine
 pub mod OneElement
 pub mod Unused
 pub mod Examples

@@ -6,7 +6,7 @@ use Rattle.refusals.proofs.FillWays.{refused-fill, refill}
 use Rattle.refusals.proofs.Replied.{unreplied}
 use Rattle.pegs.specs.Pegs.{alongLine, pegBy, pegChecks, valuesOf, pegReplyOf, pegReply}
 use Rattle.pegs.specs.Numbers.{pegNumbers, stationNumbers}
-use Rattle.pegs.proofs.Bounds.{found-peg}
+use Rattle.pegs.proofs.PegsOfALine.{found-peg}
 use borrow.Author.Needs.{needs}
 use Rattle.pegs.proofs.stored.peg_numbers.Statement.{statement}
 use Rattle.pegs.proofs.stored.peg_numbers.Tie as tie
