@@ -24,14 +24,13 @@ module _ (line : Line) where
   refused-lengths checks l v e o = record { checked = v ∙ sym o; lengths = e ∙ ap (λ (x : Outcome). lengthsAfter x (lengthsBy line)) (sym o) }
 
   -- No refusal: all straights and arcs are there.
-  pub whole-lengths : (checks : Checks) (straights arcs : List ℕ) → line .count ≤ 64 → StraightsTo line (suc (line .count)) straights
-      → ArcsTo line (line .count) arcs → outcome checks ≡ passed
-      → LengthsChecked checks line (record { verdict = Pass; straights = straights; arcs = arcs })
+  pub whole-lengths : (checks : Checks) (l : LineLengths) → line .count ≤ 64 → l .verdict ≡ Pass → StraightsTo line (suc (line .count)) (l .straights)
+      → ArcsTo line (line .count) (l .arcs) → outcome checks ≡ passed → LengthsChecked checks line l
   unfolding lengthsBy
-  whole-lengths checks straights arcs few s a o =
-      let known : lengthsOf (record { verdict = Pass; straights = straights; arcs = arcs }) ≡ lengthsBy line =
-      λ j. record { straights = front-entries (straightAt line) 65 (suc (line .count)) straights (omega arith) s j; arcs = front-entries (arcAt line) 64 (line .count) arcs few a j } in
-      record { checked = sym o; lengths = known ∙ ap (λ (x : Outcome). lengthsAfter x (lengthsBy line)) (sym o) }
+  whole-lengths checks l few v s a o =
+      let known : lengthsOf l ≡ lengthsBy line =
+      λ j. record { straights = front-entries (straightAt line) 65 (suc (line .count)) (l .straights) (omega arith) s j; arcs = front-entries (arcAt line) 64 (line .count) (l .arcs) few a j } in
+      record { checked = ap outcomeOf v ∙ sym o; lengths = known ∙ ap (λ (x : Outcome). lengthsAfter x (lengthsBy line)) (sym o) }
 
   -- The first of two parts refuses, or passes and the second decides.
   pub first-lengths : (a b : Checks) (l : LineLengths) {n p : ℕ} → outcomeOf (l .verdict) ≡ refused n p → lengthsOf l ≡ noLengths

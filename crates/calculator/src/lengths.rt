@@ -32,8 +32,11 @@ fn curve_lengths(line: Line) -> CurveLengths
     let n = line.count;
     let speed = line.speed as u64;
     let crossfall = line.crossfall as u64;
-    let mut tangents: [u64; 65] = [0; 65];
-    let mut arcs: [u64; 64] = [0; 64];
+    let mut curves = CurveLengths {
+        verdict: Verdict::Pass,
+        tangents: [0; 65],
+        arcs: [0; 64],
+    };
     let mut i = 0;
     while i < n {
         let curve = line.curves[i];
@@ -48,27 +51,23 @@ fn curve_lengths(line: Line) -> CurveLengths
         let Verdict::Pass = least else {
             return CurveLengths {
                 verdict: least,
-                tangents,
-                arcs,
+                tangents: [0; 65],
+                arcs: [0; 64],
             };
         };
         let answer = curve_elements(curve.deflection, curve.radius, curve.spiral);
         let ElementAnswer::Found(e) = answer else {
             return CurveLengths {
                 verdict: Verdict::Refused(Refusal::ShortArc(place)),
-                tangents,
-                arcs,
+                tangents: [0; 65],
+                arcs: [0; 64],
             };
         };
-        tangents[i] = e.tangent;
-        arcs[i] = e.arc;
+        curves.tangents[i] = e.tangent;
+        curves.arcs[i] = e.arc;
         i += 1;
     }
-    CurveLengths {
-        verdict: Verdict::Pass,
-        tangents,
-        arcs,
-    }
+    curves
 }
 
 // A refusal, with no lengths.
@@ -89,7 +88,11 @@ fn with_straights(line: Line, curves: CurveLengths) -> LineLengths
     ensures { λ l. ⌜ LengthsChecked (inTurn (straightCheck line) (suc (line .count))) line l ⌝ }
 {
     let n = line.count;
-    let mut straights: [u64; 65] = [0; 65];
+    let mut lengths = LineLengths {
+        verdict: Verdict::Pass,
+        straights: [0; 65],
+        arcs: curves.arcs,
+    };
     let mut before: u64 = 0;
     let mut i = 0;
     while i <= n {
@@ -103,15 +106,11 @@ fn with_straights(line: Line, curves: CurveLengths) -> LineLengths
                 arcs: [0; 64],
             };
         }
-        straights[i] = distance - ends;
+        lengths.straights[i] = distance - ends;
         before = after;
         i += 1;
     }
-    LineLengths {
-        verdict: Verdict::Pass,
-        straights,
-        arcs: curves.arcs,
-    }
+    lengths
 }
 
 // The lengths of a line's straights and arcs by document 01's working rule, in µm, beside the verdict of the calculator's checks: the first

@@ -3,7 +3,8 @@ use mathlib.Core.Path.{_≡_, refl, sym, _∙_, ap, subst}
 use Prim.Native.Nat.{ℕ, _-_, _≤_}
 use native.Mathlib.Omega.{arith}
 use borrow.Author.Needs.{needs}
-use Rattle.refusals.specs.Outcomes.{passed, firstOf}
+use Rattle.refusals.specs.declared.Verdict.the-variants.{Pass}
+use Rattle.refusals.specs.Outcomes.{passed, firstOf, outcomeOf}
 use Rattle.refusals.specs.Order.{inTurn, outcome}
 use Rattle.refusals.proofs.Joining.{not-both}
 use Rattle.line.specs.Checks.{curveAt}
@@ -18,11 +19,15 @@ use Rattle.calculator.proofs.lengths.curve_lengths.Statement.{statement
 use Rattle.calculator.proofs.lengths.curve_lengths.Tie as tie
 
 abbrev Inv-loop : tie.InvT-loop
-Inv-loop line n speed crossfall tangents₀ arcs₀ i₀ tangents arcs i =
-    (i ≤ n) × (outcome (inTurn (designChecksAt line) i) ≡ passed) × TangentsTo line i tangents × ArcsTo line i arcs
+Inv-loop line n speed crossfall curves₀ i₀ curves i =
+    (i ≤ n)
+    × (outcome (inTurn (designChecksAt line) i) ≡ passed)
+    × (curves .verdict ≡ Pass)
+    × TangentsTo line i (curves .tangents)
+    × ArcsTo line i (curves .arcs)
 
 abbrev μ-loop : tie.MeasureT-loop
-μ-loop line n speed crossfall tangents₀ arcs₀ i₀ tangents arcs i = n - i
+μ-loop line n speed crossfall curves₀ i₀ curves i = n - i
 
 cast-speed : tie.Need-cast-speed Inv-loop μ-loop
 cast-speed c = search needs
@@ -32,7 +37,7 @@ cast-crossfall c = search needs
 
 loop-holds : tie.Need-loop-holds Inv-loop μ-loop
 unfolding firstOf
-loop-holds c = (search needs, refl, front-empty _ 65, front-empty _ 64)
+loop-holds c = (search needs, refl, refl, front-empty _ 65, front-empty _ 64)
 
 mul-curve : tie.Need-mul-curve Inv-loop μ-loop
 mul-curve c = search needs
@@ -102,17 +107,17 @@ returns-2 c =
       arcs = λ e. not-both refl e;
     }
 
-mul-tangents : tie.Need-mul-tangents Inv-loop μ-loop
-mul-tangents c = search needs
+mul-curves : tie.Need-mul-curves Inv-loop μ-loop
+mul-curves c = search needs
 
-array-write-tangents : tie.Need-array-write-tangents Inv-loop μ-loop
-array-write-tangents c = search needs
+element-write-curves : tie.Need-element-write-curves Inv-loop μ-loop
+element-write-curves c = search needs
 
-mul-arcs : tie.Need-mul-arcs Inv-loop μ-loop
-mul-arcs c = search needs
+mul-curves-2 : tie.Need-mul-curves-2 Inv-loop μ-loop
+mul-curves-2 c = search needs
 
-array-write-arcs : tie.Need-array-write-arcs Inv-loop μ-loop
-array-write-arcs c = search needs
+element-write-curves-2 : tie.Need-element-write-curves-2 Inv-loop μ-loop
+element-write-curves-2 c = search needs
 
 add-i : tie.Need-add-i Inv-loop μ-loop
 add-i c = search needs
@@ -133,8 +138,9 @@ loop-again c =
     let found = found-elements (curve .deflection) (curve .radius) (curve .spiral) _ answer in (
       search needs,
       curve-passed line (loop .i) _ (least .ensures) (loop .inv .1) passes found,
-      front-more (loop .i) _ (loop .inv .2) (search needs) (found .TT),
-      front-more (loop .i) _ (loop .inv .3) (search needs) (found .D),
+      loop .inv .2,
+      front-more (loop .i) _ (loop .inv .3) (search needs) (found .TT),
+      front-more (loop .i) _ (loop .inv .4) (search needs) (found .D),
     )
 
 returns-3 : tie.Need-returns-3 Inv-loop μ-loop
@@ -143,9 +149,9 @@ returns-3 c =
     let loop = c .before .loop in
     let all : loop .i ≡ start .args .t1 .count = omega arith in
     record {
-      outcome = sym (loop .inv .1) ∙ ap (λ (n : ℕ). outcome (inTurn (designChecksAt (start .args .t1)) n)) all;
-      tangents = λ e. subst (λ (i : ℕ). TangentsTo (start .args .t1) i (loop .tangents)) all (loop .inv .2);
-      arcs = λ e. subst (λ (i : ℕ). ArcsTo (start .args .t1) i (loop .arcs)) all (loop .inv .3);
+      outcome = ap outcomeOf (loop .inv .2) ∙ sym (loop .inv .1) ∙ ap (λ (n : ℕ). outcome (inTurn (designChecksAt (start .args .t1)) n)) all;
+      tangents = λ e. subst (λ (i : ℕ). TangentsTo (start .args .t1) i (loop .curves .tangents)) all (loop .inv .3);
+      arcs = λ e. subst (λ (i : ℕ). ArcsTo (start .args .t1) i (loop .curves .arcs)) all (loop .inv .4);
     }
 
 pub curve-lengths-spec : {M : Type 1} → statement M
@@ -171,10 +177,10 @@ curve-lengths-spec =
     enum-known-answer
     enum-told-3
     returns-2
-    mul-tangents
-    array-write-tangents
-    mul-arcs
-    array-write-arcs
+    mul-curves
+    element-write-curves
+    mul-curves-2
+    element-write-curves-2
     add-i
     loop-less
     loop-again
