@@ -7,6 +7,7 @@ use Rattle.line.specs.Checks.{curveChecks}
 use Rattle.elements.specs.WorkingRule.{rounded, fullAngle, halfAngle, spiralAngle, term, alternating, sineOf, cosineOf, t2, t3, t4, unitX, unitY, spiralX, spiralY, centreOf, shiftOf, arcOf, tanOf, tangentOf}
 use Rattle.refusals.specs.Replying.{answered, declined, reply}
 use Rattle.elements.specs.Answer.{valuesBy, arcCheck, elementChecks, elementReply}
+use Rattle.elements.specs.SpiralPoint.{partTo, angleTo, offsetX, offsetY, offsetsBy, insideCheck, pointChecks, pointReply}
 
 -- R 350,000 and L 40,000 in each; case 8 is without spirals.
 pub record Examples : Type 0 where
@@ -30,9 +31,22 @@ pub record Examples : Type 0 where
   pub deflection-refused : elementReply 0 19999 500001 ≡ declined 9 0
   pub radius-refused : elementReply 1 19999 500001 ≡ declined 10 0
   pub spiral-refused : elementReply 1 20000 20001 ≡ declined 11 0
+  -- ---- points of spirals; at the rounded ones each rounding counts
+  pub half-way : pointReply 350000 40000 20000000 ≡ answered (record { x = pos 19999591; y = pos 95236 })
+  pub inner-end : pointReply 350000 40000 40000000 ≡ answered (record { x = pos 39986940; y = pos 761727 })
+  pub longest : pointReply 500000 500000 500000000 ≡ answered (record { x = pos 487644675; y = pos 81845238 })
+  pub rounded-1 : pointReply 511111 499999 369757865 ≡ answered (record { x = pos 367120821; y = pos 32801313 })
+  pub rounded-2 : pointReply 511111 499999 413920011 ≡ answered (record { x = pos 409293131; y = pos 45878991 })
+  pub rounded-3 : pointReply 511111 499999 442253848 ≡ answered (record { x = pos 435821418; y = pos 55822928 })
+  pub rounded-4 : pointReply 511111 499999 497293286 ≡ answered (record { x = pos 485777290; y = pos 78863928 })
+  pub no-spiral : pointReply 350000 0 0 ≡ answered (record { x = pos 0; y = pos 0 })
+  pub beyond-spiral : pointReply 350000 40000 40000001 ≡ declined 17 0
+  pub beyond-no-spiral : pointReply 350000 0 1 ≡ declined 17 0
+  pub point-radius-refused : pointReply 19999 500001 500001001 ≡ declined 10 0
+  pub point-spiral-refused : pointReply 20000 20001 20001001 ≡ declined 11 0
 
 pub examples : Examples
-unfolding curveChecks rounded fullAngle halfAngle spiralAngle term alternating sineOf cosineOf t2 t3 t4 unitX unitY spiralX spiralY centreOf shiftOf arcOf tanOf tangentOf valuesBy arcCheck elementChecks elementReply reply
+unfolding curveChecks rounded fullAngle halfAngle spiralAngle term alternating sineOf cosineOf t2 t3 t4 unitX unitY spiralX spiralY centreOf shiftOf arcOf tanOf tangentOf valuesBy arcCheck elementChecks elementReply reply partTo angleTo offsetX offsetY offsetsBy insideCheck pointChecks pointReply
 examples =
     record {
       case-1 = refl;
@@ -49,6 +63,18 @@ examples =
       deflection-refused = refl;
       radius-refused = refl;
       spiral-refused = refl;
+      half-way = refl;
+      inner-end = refl;
+      longest = refl;
+      rounded-1 = refl;
+      rounded-2 = refl;
+      rounded-3 = refl;
+      rounded-4 = refl;
+      no-spiral = refl;
+      beyond-spiral = refl;
+      beyond-no-spiral = refl;
+      point-radius-refused = refl;
+      point-spiral-refused = refl;
     }
 
 -- Case 11: "L 0: X, Y, k, p are all 0.", at every radius.

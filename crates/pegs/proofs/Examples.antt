@@ -3,9 +3,11 @@
 use mathlib.Core.Path.{_≡_, refl}
 use mathlib.Core.Bool.{Bool, true, false}
 use mathlib.Core.List.{List, [], _∷_, map}
-use Prim.Native.Nat.{ℕ, _+_}
+use Prim.Native.Nat.{ℕ}
 use lib.IntN.{ℤ, pos, negℤ}
+use lib.ListN.{replicate}
 use Rattle.refusals.specs.Outcomes.{firstOf}
+use Rattle.refusals.specs.Filling.{filled, unfilled, withRoom, fill}
 use Rattle.refusals.specs.Replying.{Reply, answered, declined, reply}
 use Rattle.line.specs.declared.Curve.{Curve}
 use Rattle.line.specs.declared.Line.{Line}
@@ -19,9 +21,9 @@ use Rattle.stationing.specs.RoadTables.{underSpeed, frictionAt, leastSpiralAt, 
 use Rattle.stationing.specs.Stations.{spiralAt, arcAt, tangentAt, tangentBefore, tangentAfter, straightAt, formerST}
 use Rattle.stationing.specs.Answer.{designChecks, designChecksAt, straightCheck, alignmentChecks}
 use Rattle.stationing.specs.LineElements.{elementsFrom, elementsOf, total, lineLength, placedFrom, placedElements}
-use Rattle.stationing.proofs.Examples.{caseLine}
+use Rattle.stationing.proofs.Examples.{caseLine, noCurve}
 use Rattle.pegs.specs.Pegs.{alongLine, holds, lastStraight, holding, elementUnder, PegValues, pegBy, stationCheck, pegChecks, pegReply}
-use Rattle.pegs.specs.Numbers.{kindNumber, pegNumbers}
+use Rattle.pegs.specs.Numbers.{kindNumber, pegNumbers, stationNumbers}
 
 -- A peg, by its values.
 abbrev at : ElementKind → (number : ℕ) → (length x y : ℤ) → Reply PegValues
@@ -73,14 +75,18 @@ pub record Examples : Type 0 where
   pub no-spiral-in : pegReply two 894115696 ≡ plain Arc 2 0
   pub no-spiral-out : pegReply two 1063800484 ≡ plain Straight 2 0
   pub second-end : pegReply two 1477256269 ≡ plain Straight 2 413455785
-  -- ---- refused lines, and a peg as numbers
+  -- ---- a line without curves, refused lines, and a peg as numbers
+  pub no-curve : fill (pegChecks noCurve 250000000) (stationNumbers noCurve 250000000) (replicate 6 (pos 7)) .reply ≡ filled 5
+  pub no-curve-numbers : fill (pegChecks noCurve 250000000) (stationNumbers noCurve 250000000) (replicate 6 (pos 7)) .buffer
+      ≡ pos 0 ∷ pos 0 ∷ pos 250000000 ∷ pos 0 ∷ pos 0 ∷ pos 7 ∷ []
+  pub sixteen-last : fill (pegChecks noCurve 500000001) (stationNumbers noCurve 500000001) [] .reply ≡ unfilled 17 0
   pub fifteen-first : pegReply (caseLine 180990 350000 40000) 879659912 ≡ declined 15 0
   pub kinds : map kindNumber (Straight ∷ SpiralIn ∷ Arc ∷ SpiralOut ∷ []) ≡ 0 ∷ 1 ∷ 2 ∷ 3 ∷ []
   pub numbers : pegNumbers (record { kind = Arc; number = 7; length = pos 8; offsets = record { x = pos 9; y = pos 10 } })
       ≡ pos 2 ∷ pos 7 ∷ pos 8 ∷ pos 9 ∷ pos 10 ∷ []
 
 pub examples : Examples
-unfolding firstOf startCheck headChecks distanceCheck curveChecks bodyChecks lineChecks rounded fullAngle halfAngle spiralAngle term alternating sineOf cosineOf t2 t3 t4 unitX unitY spiralX spiralY centreOf shiftOf arcOf tanOf tangentOf arcCheck underSpeed frictionAt leastSpiralAt radiusServes spiralServes spiralAt arcAt tangentAt tangentBefore tangentAfter straightAt formerST designChecks designChecksAt straightCheck alignmentChecks elementsFrom elementsOf total lineLength placedFrom placedElements partTo angleTo offsetX offsetY alongLine holds lastStraight holding elementUnder pegBy stationCheck pegChecks reply pegReply
+unfolding firstOf startCheck headChecks distanceCheck curveChecks bodyChecks lineChecks rounded fullAngle halfAngle spiralAngle term alternating sineOf cosineOf t2 t3 t4 unitX unitY spiralX spiralY centreOf shiftOf arcOf tanOf tangentOf arcCheck underSpeed frictionAt leastSpiralAt radiusServes spiralServes spiralAt arcAt tangentAt tangentBefore tangentAfter straightAt formerST designChecks designChecksAt straightCheck alignmentChecks elementsFrom elementsOf total lineLength placedFrom placedElements partTo angleTo offsetX offsetY alongLine holds lastStraight holding elementUnder pegBy stationCheck pegChecks reply pegReply stationNumbers withRoom fill
 examples =
     record {
       start = refl;
@@ -104,6 +110,9 @@ examples =
       no-spiral-in = refl;
       no-spiral-out = refl;
       second-end = refl;
+      no-curve = refl;
+      no-curve-numbers = refl;
+      sixteen-last = refl;
       fifteen-first = refl;
       kinds = refl;
       numbers = refl;

@@ -1,7 +1,8 @@
 -- Answers by computation, and document 01's cases 1 and 9 as the calls for C and Rust give them. Assumes nothing.
 use mathlib.Core.Path.{_≡_, refl, sym, _∙_, ap}
 use mathlib.Core.List.{[], _∷_}
-use lib.ListN.{length}
+use lib.IntN.{pos}
+use lib.ListN.{length, replicate}
 use Rattle.refusals.specs.Outcomes.{Outcome}
 use Rattle.refusals.specs.Filling.{filled, unfilled, countAfter, fill}
 use Rattle.refusals.proofs.Filled.{found}
@@ -13,12 +14,13 @@ use Rattle.elements.specs.declared.Elements.{Elements}
 use Rattle.elements.proofs.Replies.{found-elements}
 use Rattle.elements.proofs.Examples as curves
 use Rattle.stationing.proofs.Examples as lines
+use Rattle.pegs.proofs.Examples as pegs
 use Rattle.station_report.specs.Report.{sheetChecks}
 use Rattle.station_report.proofs.Examples.{sheet4}
 use Rattle.station_report.proofs.Examples as refusedSheets
 use Rattle.pokyandi.specs.Answers.{answerNumber}
-use Rattle.pokyandi.specs.Calls.{sheetStations, checkReply, sheetNumbers, numbersSheet, elementNumbers, version}
-use Rattle.pokyandi.proofs.Replies.{stations-reply, found-numbers}
+use Rattle.pokyandi.specs.Calls.{sheetStations, sheetPegChecks, sheetPeg, checkReply, sheetNumbers, numbersSheet, elementNumbers, version}
+use Rattle.pokyandi.proofs.Replies.{stations-reply, peg-reply, found-numbers}
 
 pub record Examples : Type 0 where
   pub count : answerNumber (filled 257) ≡ 257
@@ -31,6 +33,9 @@ pub record Examples : Type 0 where
   pub case-9-sheet : numbersSheet (0 ∷ 70 ∷ 8 ∷ 0 ∷ 500000 ∷ []) ≡ sheet9
   pub case-9 : fill (sheetChecks sheet9) (sheetStations sheet9) (7 ∷ []) .reply ≡ filled 1
   pub case-9-checked : checkReply sheet9 ≡ filled 1
+  pub case-9-peg : fill (sheetPegChecks sheet9 250000000) (sheetPeg sheet9 250000000) (replicate 6 (pos 7)) .reply ≡ filled 5
+  pub case-9-peg-numbers : fill (sheetPegChecks sheet9 250000000) (sheetPeg sheet9 250000000) (replicate 6 (pos 7)) .buffer
+      ≡ pos 0 ∷ pos 0 ∷ pos 250000000 ∷ pos 0 ∷ pos 0 ∷ pos 7 ∷ []
   pub case-9-end : fill (sheetChecks sheet9) (sheetStations sheet9) (7 ∷ []) .buffer ≡ 500000000 ∷ []
 
 -- Case 1's curve as the element call answers it.
@@ -44,6 +49,13 @@ stations9 : (filled 1 ≡ fill (sheetChecks sheet9) (sheetStations sheet9) (7 �
 stations9 =
     stations-reply sheet9 (sheets.examples .case-9-read) (sym (sheets.examples .case-9-line)) (7 ∷ [])
     (sym (lines.examples .case-9), sym (lines.examples .case-9-row))
+
+-- And the peg in its middle.
+peg9 : (filled 5 ≡ fill (sheetPegChecks sheet9 250000000) (sheetPeg sheet9 250000000) (replicate 6 (pos 7)) .reply)
+    × (pos 0 ∷ pos 0 ∷ pos 250000000 ∷ pos 0 ∷ pos 0 ∷ pos 7 ∷ [] ≡ fill (sheetPegChecks sheet9 250000000) (sheetPeg sheet9 250000000) (replicate 6 (pos 7)) .buffer)
+peg9 =
+    peg-reply sheet9 (sheets.examples .case-9-read) (sym (sheets.examples .case-9-line)) 250000000 (replicate 6 (pos 7))
+    (sym (pegs.examples .no-curve), sym (pegs.examples .no-curve-numbers))
 
 checked9 : checkReply sheet9 ≡ filled 1
 unfolding checkReply
@@ -64,5 +76,7 @@ examples =
       case-9-sheet = sheets.examples .case-9-written;
       case-9 = sym (stations9 .0);
       case-9-checked = checked9;
+      case-9-peg = sym (peg9 .0);
+      case-9-peg-numbers = sym (peg9 .1);
       case-9-end = sym (stations9 .1);
     }
