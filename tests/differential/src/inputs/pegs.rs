@@ -28,7 +28,8 @@ pub fn any_peg(dice: &mut Dice) -> Request {
 }
 
 /// A road with a curve whose spirals are about as long as they may be: there the
-/// roundings of the offsets count most.
+/// roundings of the offsets count most. Some are refused 13: the least spiral of a
+/// sharp curve may be longer than its radius.
 fn sharp_road(dice: &mut Dice) -> Line {
     let n = dice.index(1, 3);
     let i = dice.index(1, n);
@@ -41,7 +42,7 @@ fn sharp_curve(dice: &mut Dice, speed: DesignSpeed, e: u32) -> Curve {
     let most = greatest_spiral(r);
     let l = dice
         .between(most - most / 10, most)
-        .max(least_spiral(speed, r));
+        .max(least_spiral(speed, r).min(most));
     Curve::new(road_deflection(dice, r, l), r, l)
 }
 
