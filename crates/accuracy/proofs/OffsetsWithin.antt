@@ -131,9 +131,9 @@ module _ (A R L l : ℕ) (ok : CurveInRange A R L) (above : zero < L) (on : l �
   unfolding offsetX exactOffsetX
   near-offset-x = near-times 1508 726 (omega (arith, short)) (omega (arith, short)) (near-unit-x (exactAngleTo R L l) angle)
 
-  near-offset-y : Near 1000 (offsetY R L l) (exactOffsetY R L l) 2084 560
+  near-offset-y : Near 1000 (offsetY R L l) (exactOffsetY R L l) 2084 550
   unfolding offsetY exactOffsetY
-  near-offset-y = near-times 2084 560 (omega (arith, short)) (omega (arith, short)) (near-unit-y (exactAngleTo R L l) angle)
+  near-offset-y = near-times 2084 550 (omega (arith, short)) (omega (arith, short)) (near-unit-y (exactAngleTo R L l) angle)
 
 -- At the outer end, which is all that an empty spiral has, both are 0.
 near-nothing : (v : Fraction) → Near 1000 (pos 0) (nat 0 ⊗ v ⊘ 1000) 0 0
