@@ -32,7 +32,7 @@ fn curve_lengths(line: Line) -> CurveLengths
     let n = line.count;
     let speed = line.speed as u64;
     let crossfall = line.crossfall as u64;
-    let mut curves = CurveLengths {
+    let mut lengths = CurveLengths {
         verdict: Verdict::Pass,
         tangents: [0; 65],
         arcs: [0; 64],
@@ -63,11 +63,11 @@ fn curve_lengths(line: Line) -> CurveLengths
                 arcs: [0; 64],
             };
         };
-        curves.tangents[i] = e.tangent;
-        curves.arcs[i] = e.arc;
+        lengths.tangents[i] = e.tangent;
+        lengths.arcs[i] = e.arc;
         i += 1;
     }
-    curves
+    lengths
 }
 
 // A refusal, with no lengths.

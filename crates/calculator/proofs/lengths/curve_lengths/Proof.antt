@@ -19,15 +19,15 @@ use Rattle.calculator.proofs.lengths.curve_lengths.Statement.{statement
 use Rattle.calculator.proofs.lengths.curve_lengths.Tie as tie
 
 abbrev Inv-loop : tie.InvT-loop
-Inv-loop line n speed crossfall curves₀ i₀ curves i =
+Inv-loop line n speed crossfall lengths₀ i₀ lengths i =
     (i ≤ n)
     × (outcome (inTurn (designChecksAt line) i) ≡ passed)
-    × (curves .verdict ≡ Pass)
-    × TangentsTo line i (curves .tangents)
-    × ArcsTo line i (curves .arcs)
+    × (lengths .verdict ≡ Pass)
+    × TangentsTo line i (lengths .tangents)
+    × ArcsTo line i (lengths .arcs)
 
 abbrev μ-loop : tie.MeasureT-loop
-μ-loop line n speed crossfall curves₀ i₀ curves i = n - i
+μ-loop line n speed crossfall lengths₀ i₀ lengths i = n - i
 
 cast-speed : tie.Need-cast-speed Inv-loop μ-loop
 cast-speed c = search needs
@@ -107,17 +107,17 @@ returns-2 c =
       arcs = λ e. not-both refl e;
     }
 
-mul-curves : tie.Need-mul-curves Inv-loop μ-loop
-mul-curves c = search needs
+mul-lengths : tie.Need-mul-lengths Inv-loop μ-loop
+mul-lengths c = search needs
 
-element-write-curves : tie.Need-element-write-curves Inv-loop μ-loop
-element-write-curves c = search needs
+element-write-lengths : tie.Need-element-write-lengths Inv-loop μ-loop
+element-write-lengths c = search needs
 
-mul-curves-2 : tie.Need-mul-curves-2 Inv-loop μ-loop
-mul-curves-2 c = search needs
+mul-lengths-2 : tie.Need-mul-lengths-2 Inv-loop μ-loop
+mul-lengths-2 c = search needs
 
-element-write-curves-2 : tie.Need-element-write-curves-2 Inv-loop μ-loop
-element-write-curves-2 c = search needs
+element-write-lengths-2 : tie.Need-element-write-lengths-2 Inv-loop μ-loop
+element-write-lengths-2 c = search needs
 
 add-i : tie.Need-add-i Inv-loop μ-loop
 add-i c = search needs
@@ -150,8 +150,8 @@ returns-3 c =
     let all : loop .i ≡ start .args .t1 .count = omega arith in
     record {
       outcome = ap outcomeOf (loop .inv .2) ∙ sym (loop .inv .1) ∙ ap (λ (n : ℕ). outcome (inTurn (designChecksAt (start .args .t1)) n)) all;
-      tangents = λ e. subst (λ (i : ℕ). TangentsTo (start .args .t1) i (loop .curves .tangents)) all (loop .inv .3);
-      arcs = λ e. subst (λ (i : ℕ). ArcsTo (start .args .t1) i (loop .curves .arcs)) all (loop .inv .4);
+      tangents = λ e. subst (λ (i : ℕ). TangentsTo (start .args .t1) i (loop .lengths .tangents)) all (loop .inv .3);
+      arcs = λ e. subst (λ (i : ℕ). ArcsTo (start .args .t1) i (loop .lengths .arcs)) all (loop .inv .4);
     }
 
 pub curve-lengths-spec : {M : Type 1} → statement M
@@ -177,10 +177,10 @@ curve-lengths-spec =
     enum-known-answer
     enum-told-3
     returns-2
-    mul-curves
-    element-write-curves
-    mul-curves-2
-    element-write-curves-2
+    mul-lengths
+    element-write-lengths
+    mul-lengths-2
+    element-write-lengths-2
     add-i
     loop-less
     loop-again
