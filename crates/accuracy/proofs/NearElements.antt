@@ -1,11 +1,11 @@
 -- X, Y, k, p and D of a curve, rule against exact, with an error either way in thousandths of a µm. Assumes nothing.
-use Prim.Native.Nat.{ℕ, zero, _+_, _*_, _/_, _≤_, _<_}
+use Prim.Native.Nat.{ℕ, zero, _+_, _*_, _≤_, _<_}
 use native.Mathlib.Omega.{arith}
-use lib.Dec.{lit<, lit≤}
+use lib.Dec.{lit<}
 use lib.IntN.{ℤ, pos, _*ℤ_}
 use Rattle.line.specs.Ranges.{CurveInRange}
 use Rattle.elements.specs.WorkingRule.{scale, rounded, spiralX, spiralY, centreOf, shiftOf, arcOf}
-use Rattle.accuracy.specs.Fractions.{Fraction, nat, _⊕_, _⊖_, _⊗_, _↑_, _⊘_}
+use Rattle.accuracy.specs.Fractions.{Fraction, nat, _⊗_}
 use Rattle.accuracy.specs.ExactElements.{exactSpiralAngle, exactX, exactY, exactCentre, exactShift, exactArc}
 use Rattle.accuracy.proofs.Nearness.{Near, near-nat, near-difference, near-multiple, near-down}
 use Rattle.accuracy.proofs.UnitSpiral.{near-unit-x, near-unit-y}

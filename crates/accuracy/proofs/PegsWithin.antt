@@ -5,7 +5,6 @@ use Prim.Native.Nat.{ℕ, suc, _+_, _-_, _*_, _≤_, _<_}
 use native.Mathlib.Omega.{arith}
 use lib.Dec.{lit≤}
 use lib.IntN.{ℤ, pos, negℤ, +ℤ-idl}
-use Rattle.refusals.specs.Outcomes.{passed}
 use Rattle.refusals.specs.Order.{outcome}
 use Rattle.refusals.specs.Replying.{answered}
 use Rattle.refusals.proofs.Joining.{passed-left}
@@ -14,7 +13,7 @@ use Rattle.line.specs.Checks.{curveAt}
 use Rattle.stationing.specs.Answer.{alignmentChecks}
 use Rattle.stationing.proofs.Accepted.{Accepted, accepted}
 use Rattle.pegs.specs.Pegs.{sided, PegValues, pegChecks, pegReply}
-use Rattle.pegs.proofs.PegsOfALine.{PegOf, on-a-straight, on-an-arc, on-a-spiral-in, on-a-spiral-out, FoundPeg, found-peg}
+use Rattle.pegs.proofs.PegsOfALine.{PegOf, on-a-straight, on-an-arc, on-a-spiral-in, on-a-spiral-out, found-peg}
 use Rattle.accuracy.specs.Fractions.{Fraction, nat}
 use Rattle.accuracy.specs.Accuracy.{Within}
 use Rattle.accuracy.specs.ExactOffsets.{offsetTolerance, exactSided, PegWithin}

@@ -2,7 +2,7 @@
 -- spiral length L are in mm, the length l in µm, the exact offsets in mm.
 use mathlib.Core.Bool.{Bool, true, false}
 use Prim.Native.Nat.{ℕ, _-_, _*_}
-use lib.IntN.{ℤ, natAbs}
+use lib.IntN.{natAbs}
 use Rattle.elements.specs.SpiralPoint.{offsetX, offsetY}
 use Rattle.accuracy.specs.Fractions.{Fraction, nat, _⊖_, _⊗_, _↑_, _⊘_}
 use Rattle.accuracy.specs.ExactElements.{exactUnitX, exactUnitY}

@@ -1,12 +1,11 @@
 -- The points of a spiral: the ranges of what is computed for one, and its two ends: at the outer end both offsets are 0, at the inner end they
 -- are X and Y of the element call. Assumes nothing.
-use mathlib.Core.Path.{_≡_, refl, sym, _∙_, ap}
+use mathlib.Core.Path.{_≡_, sym, _∙_, ap}
 use Prim.Native.Nat.{ℕ, zero, suc, _*_, _/_, _≤_, _<_}
 use native.Mathlib.Nat.{mul-le-mul, mul-div-cancel, mul-div-cancel-left, mul-div-mul-left, div-le-of-le-mul, mul-assoc, zero-mul, zero-div}
 use native.Mathlib.Omega.{arith}
 use lib.IntN.{ℤ, pos, negsuc, _*ℤ_}
 use Rattle.numbers.specs.Whole.{Between}
-use Rattle.numbers.proofs.Products.{products}
 use Rattle.numbers.proofs.Ranges.{at-most, natural, product-between}
 use borrow.Author.Tests.{le-leb}
 use Rattle.refusals.specs.declared.Refusal.{Refusal}

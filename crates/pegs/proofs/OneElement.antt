@@ -18,13 +18,13 @@ use Rattle.refusals.specs.Replying.{answered}
 use Rattle.refusals.proofs.Replied.{passed-reply}
 use Rattle.line.specs.declared.Line.{Line}
 use Rattle.line.specs.Checks.{curveAt}
-use Rattle.stationing.specs.Stations.{spiralAt, arcAt, straightAt, formerST, endOf}
+use Rattle.stationing.specs.Stations.{spiralAt, formerST, endOf}
 use Rattle.stationing.specs.Answer.{alignmentChecks}
 use Rattle.stationing.specs.LineElements.{Element, straightElement, elementsFrom, elementsOf, total, lineLength, Placed, placedFrom, placedElements}
 use Rattle.stationing.proofs.Accepted.{Accepted, accepted}
 use Rattle.stationing.proofs.ElementsAndStations.{length-to-end}
 use Rattle.pegs.specs.Pegs.{alongLine, holds, lastStraight, holding, elementUnder, pegBy, stationCheck, pegChecks, pegReply}
-use Rattle.pegs.specs.OneElement.{elementCount, elementAt, LiesOn, OnOneElement}
+use Rattle.pegs.specs.OneElement.{elementCount, elementAt, OnOneElement}
 use Rattle.pegs.proofs.Walking.{held, gone-by}
 
 -- ---- elements whose lengths are natural numbers

@@ -1,16 +1,14 @@
 -- The walk over a line's elements, one after the other, to the one that holds a length: each step on natural numbers. Assumes nothing.
 use mathlib.Core.Path.{_≡_, refl, sym, _∙_, ap, subst}
-use mathlib.Core.Bool.{true, false, cond, _&&_}
+use mathlib.Core.Bool.{true, false}
 use mathlib.Core.List.{List, [], _∷_}
 use Prim.Native.Nat.{ℕ, zero, suc, _+_, _-_, _*_, _≤_, _<_}
 use native.Mathlib.Numerals.{add-one}
 use native.Mathlib.Decide.{decLt}
 use native.Mathlib.Omega.{arith}
-use lib.Dec.{ltb, leb}
-use lib.IntN.{ℤ, pos, _+ℤ_, _-ℤ_, +ℤ-assoc, +ℤ-idl, +ℤ-idr}
-use lib.Signed.{leZ, ltZ}
+use lib.IntN.{ℤ, pos, _+ℤ_, _-ℤ_, +ℤ-idl}
+use lib.Signed.{leZ}
 use borrow.Author.Tests.{le-leb, lt-leb, le-ltb, lt-ltb}
-use Rattle.numbers.specs.Whole.{Between}
 use Rattle.numbers.proofs.Differences.{minus-le}
 use Rattle.refusals.specs.Replying.{answered, declined, reply}
 use Rattle.refusals.proofs.Replied.{passed-reply, refused-reply}
@@ -18,7 +16,7 @@ use Rattle.line.specs.declared.Line.{Line}
 use Rattle.line.specs.Checks.{curveAt}
 use Rattle.stationing.specs.declared.ElementKind.the-variants.{Straight, SpiralIn, Arc, SpiralOut}
 use Rattle.stationing.specs.Stations.{spiralAt, arcAt, straightAt, formerST}
-use Rattle.stationing.specs.LineElements.{Element, straightElement, spiralInElement, arcElement, spiralOutElement, elementsFrom, elementsOf, total, lineLength, Placed, finish, placedFrom, placedElements}
+use Rattle.stationing.specs.LineElements.{Element, straightElement, spiralInElement, arcElement, spiralOutElement, elementsFrom, elementsOf, total, lineLength, Placed, placedFrom, placedElements}
 use Rattle.stationing.proofs.Accepted.{Accepted}
 use Rattle.pegs.specs.Pegs.{holds, lastStraight, holding, elementUnder, PegValues, pegOn, pegBy, stationCheck}
 use Rattle.pegs.specs.Steps.{plainPeg, spiralPeg, pegInCurve}

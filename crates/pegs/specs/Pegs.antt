@@ -15,7 +15,7 @@ use Rattle.stationing.specs.declared.ElementKind.{ElementKind}
 use Rattle.stationing.specs.declared.ElementKind.the-variants.{Straight, SpiralIn, Arc, SpiralOut}
 use Rattle.stationing.specs.Stations.{formerST}
 use Rattle.stationing.specs.Answer.{alignmentChecks}
-use Rattle.stationing.specs.LineElements.{Element, straightElement, lineLength, Placed, finish, placedElements}
+use Rattle.stationing.specs.LineElements.{straightElement, lineLength, Placed, finish, placedElements}
 use Rattle.pegs.specs.declared.Peg.{Peg}
 use Rattle.pegs.specs.declared.PegAnswer.{PegAnswer}
 use Rattle.pegs.specs.declared.PegAnswer.the-variants.{Found, Refused}

@@ -1,6 +1,6 @@
 -- A line's elements add up: each ends where the next begins, and the ends of its elements in order are the stations TS, SC, CS, ST of each
 -- curve and the end. Assumes nothing.
-use mathlib.Core.Path.{_≡_, refl, sym, _∙_, ap}
+use mathlib.Core.Path.{_≡_, sym, _∙_, ap}
 use mathlib.Core.List.{List, [], _∷_, _++_, map, append-assoc}
 use Prim.Native.Nat.{ℕ, zero, suc, _+_, _*_}
 use native.Mathlib.Omega.{arith}

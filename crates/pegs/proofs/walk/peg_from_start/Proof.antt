@@ -1,7 +1,7 @@
 -- `peg_from_start`: a station before the start is outside; behind it, the length from the start decides. Assumes nothing.
-use mathlib.Core.Path.{_≡_, sym, _∙_, ap}
-use lib.IntN.{ℤ, pos, _-ℤ_}
-use Prim.Native.Nat.{_-_, _*_}
+use mathlib.Core.Path.{sym, _∙_, ap}
+use lib.IntN.{ℤ}
+use Prim.Native.Nat.{_-_}
 use Rattle.numbers.proofs.Differences.{minus-le, minus-lt}
 use Rattle.refusals.specs.Replying.{reply}
 use Rattle.refusals.proofs.Replied.{refused-reply}

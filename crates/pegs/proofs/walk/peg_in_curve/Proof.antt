@@ -1,9 +1,7 @@
 -- `peg_in_curve`: one case for each element of the curve. Assumes nothing.
-use mathlib.Core.Path.{sym, _∙_, ap}
-use native.Mathlib.Omega.{arith}
+use mathlib.Core.Path.{ap}
 use borrow.Author.Tests.{lt-ltb, le-ltb}
 use Rattle.refusals.specs.Replying.{answered}
-use Rattle.pegs.specs.Pegs.{PegValues}
 use Rattle.pegs.specs.Steps.{pegInCurve}
 use borrow.Author.Needs.{needs}
 use Rattle.pegs.proofs.walk.peg_in_curve.Statement.{statement}

@@ -1,12 +1,8 @@
 -- `spiral_peg`: a length on the spiral is never refused, and the offsets are the rule's, y to the curve's side. Assumes nothing.
 use mathlib.Core.Path.{sym, _∙_, ap}
-use mathlib.Core.Bool.{Bool}
-use lib.IntN.{ℤ, pos}
 use mir.Facts.{toZ-ofZ}
 use Rattle.elements.specs.SpiralPoint.{pointReplyOf}
 use Rattle.elements.proofs.SpiralPoints.{never-refused, found-offsets}
-use Rattle.refusals.specs.Replying.{answered}
-use Rattle.pegs.specs.Pegs.{sided}
 use borrow.Author.Needs.{needs}
 use Rattle.pegs.proofs.walk.spiral_peg.Statement.{statement}
 use Rattle.pegs.proofs.walk.spiral_peg.Tie as tie
