@@ -7,10 +7,10 @@ use mathlib.Core.List.{List, [], _∷_}
 use Prim.Native.Nat.{ℕ, zero, suc, _+_, _-_, _*_, _≤_, _<_}
 use native.Mathlib.Decide.{decLt}
 use native.Mathlib.Omega.{arith}
-use lib.IntN.{ℤ, pos, _+ℤ_, _-ℤ_}
+use lib.IntN.{ℤ, pos, _+ℤ_}
 use lib.ListN.{length, getD}
 use lib.Signed.{leZ}
-use borrow.Author.Tests.{le-leb, lt-leb, le-ltb, lt-ltb, leb-true}
+use borrow.Author.Tests.{le-leb, leb-true}
 use Rattle.numbers.proofs.Differences.{minus-le}
 use Rattle.refusals.specs.Outcomes.{passed}
 use Rattle.refusals.specs.Order.{outcome}
@@ -20,64 +20,43 @@ use Rattle.line.specs.declared.Line.{Line}
 use Rattle.line.specs.Checks.{curveAt}
 use Rattle.stationing.specs.Stations.{spiralAt, formerST, endOf}
 use Rattle.stationing.specs.Answer.{alignmentChecks}
-use Rattle.stationing.specs.LineElements.{Element, straightElement, elementsFrom, elementsOf, total, lineLength, Placed, placedFrom, placedElements}
+use Rattle.stationing.specs.LineElements.{Element, straightElement, elementsFrom, elementsOf, lineLength, Placed, placedFrom, placedElements}
 use Rattle.stationing.proofs.Accepted.{Accepted, accepted}
 use Rattle.stationing.proofs.ElementsAndStations.{length-to-end}
 use Rattle.pegs.specs.Pegs.{alongLine, holds, lastStraight, holding, elementUnder, pegBy, stationCheck, pegChecks, pegReply}
 use Rattle.pegs.specs.OneElement.{elementCount, elementAt, OnOneElement}
-use Rattle.pegs.proofs.Walking.{held, gone-by}
+use Rattle.pegs.proofs.ElementLengths.{Lengths, none, more, total-is, Sum, lengths-from}
+use Rattle.pegs.proofs.Walking.{first-held, not-begun, ended, held, gone-by, last-begins}
 
 -- ---- elements whose lengths are natural numbers
-
-data Lengths : List Element → ℕ → Type 0 where
-  none : Lengths [] 0
-  more : {e : Element} {es : List Element} (l : ℕ) {rest : ℕ} → e .length ≡ pos l → Lengths es rest → Lengths (e ∷ es) (l + rest)
 
 placed-length : (b : ℤ) (es : List Element) → length (placedFrom b es) ≡ length es
 unfolding placedFrom
 placed-length b [] = refl
 placed-length b (e ∷ es) = ap suc (placed-length (b +ℤ e .length) es)
 
-total-is : {es : List Element} {sum : ℕ} → Lengths es sum → total es ≡ pos sum
-unfolding total
-total-is none = refl
-total-is (more l is ls) = rw (is, total-is ls)
-
 module _ (along : ℕ) (d : Placed) where
   -- Whether the element at an index holds the length.
   abbrev Held : List Placed → ℕ → Bool → Type 0
   Held ps j t = holds (pos along) (getD ps j d) ≡ t
 
-  module _ (e : Element) (l b : ℕ) (is : e .length ≡ pos l) where
-    first-held : b ≤ along → along < b + l → holds (pos along) (record { element = e; begin = pos b }) ≡ true
-    unfolding holds
-    first-held h k = rw (is, le-leb b along h, lt-ltb along (b + l) k)
-
-    not-begun : along < b → holds (pos along) (record { element = e; begin = pos b }) ≡ false
-    unfolding holds
-    not-begun h = rw (lt-leb b along h)
-
-    ended : b + l ≤ along → holds (pos along) (record { element = e; begin = pos b }) ≡ false
-    unfolding holds
-    ended h = rw (is, le-leb b along (omega arith), le-ltb along (b + l) h)
-
   -- None of those that begin later holds the length, and none of those that have ended.
   later : {es : List Element} {sum : ℕ} (b : ℕ) → Lengths es sum → along < b → (j : ℕ) → j < length es → Held (placedFrom (pos b) es) j false
   unfolding placedFrom
   later b none h j k = absurd (omega arith)
-  later b (more {e} l is ls) h zero k = not-begun e l b is h
+  later b (more {e} l is ls) h zero k = not-begun along b l e is h
   later b (more l is ls) h (suc j) k = rw is (later (b + l) ls (omega arith) j (omega arith))
 
   over : {es : List Element} {sum : ℕ} (b : ℕ) → Lengths es sum → b + sum ≤ along → (j : ℕ) → j < length es → Held (placedFrom (pos b) es) j false
   unfolding placedFrom
   over b none h j k = absurd (omega arith)
-  over b (more {e} l is ls) h zero k = ended e l b is (omega arith)
+  over b (more {e} l is ls) h zero k = ended along b l e is (omega arith)
   over b (more l is ls) h (suc j) k = rw is (over (b + l) ls (omega arith) j (omega arith))
 
   over-last : {es : List Element} {sum : ℕ} (b : ℕ) (last : Placed) → Lengths es sum → b + sum ≤ along → holding (pos along) (placedFrom (pos b) es) last ≡ last
   unfolding placedFrom holding
   over-last b last none h = refl
-  over-last b last (more {e} {es} l is ls) h = gone-by along b l e es last is (omega arith) ∙ over-last (b + l) last ls (omega arith)
+  over-last b last (more {e} {es} l is ls) h = gone-by along b l e is es last (omega arith) ∙ over-last (b + l) last ls (omega arith)
 
   -- One that holds it, and no other.
   record HeldByOne (ps : List Placed) (count : ℕ) (last : Placed) : Type 0 where
@@ -105,9 +84,9 @@ module _ (along : ℕ) (d : Placed) where
           record {
             index = 0;
             inside = omega arith;
-            here = first-held e l b is h m;
+            here = first-held along b l e is h m;
             only = only;
-            under = held along b l e es last is h m;
+            under = held along b l e is es last h m;
           }
         where
           only : (j : ℕ) → j < suc (length es) → Held (placedFrom (pos b) (e ∷ es)) j true → j ≡ 0
@@ -120,36 +99,17 @@ module _ (along : ℕ) (d : Placed) where
             inside = omega (arith, n .inside);
             here = rw is (n .here);
             only = only n;
-            under = gone-by along b l e es last is (omega arith) ∙ n .under ∙ rw is refl;
+            under = gone-by along b l e is es last (omega arith) ∙ n .under ∙ rw is refl;
           }
         where
           only : (n : HeldByOne (placedFrom (pos (b + l)) es) (length es) last) → (j : ℕ) → j < suc (length es)
               → Held (placedFrom (pos b) (e ∷ es)) j true → j ≡ suc (n .index)
-          only n zero i q = clash q (ended e l b is (omega arith))
+          only n zero i q = clash q (ended along b l e is (omega arith))
           only n (suc j) i q = ap suc (n .only j (omega arith) (rw is at q))
 
 -- ---- the elements of an accepted line
 
 module _ (line : Line) (ok : Accepted line) where
-  -- Their lengths, from distance i on.
-  record Sum (i k : ℕ) : Type 0 where
-    sum : ℕ
-    lengths : Lengths (elementsFrom line i k) sum
-
-  lengths-from : (i k : ℕ) → i + k ≡ line .count → Sum i k
-  unfolding elementsFrom spiralAt
-  lengths-from i zero n =
-      let s = ok .straight i (omega arith) in
-      record { sum = s .value + 0; lengths = more (s .value) (s .same) none }
-  lengths-from i (suc k) n =
-      let s = ok .straight i (omega arith) in
-      let d = ok .arc i (omega arith) in
-      let rest = lengths-from (suc i) k (omega arith) in
-      record {
-        sum = _;
-        lengths = more (s .value) (s .same) (more _ refl (more (d .value) (d .same) (more _ refl (rest .lengths))));
-      }
-
   count-from : (i k : ℕ) → length (elementsFrom line i k) ≡ 4 * k + 1
   unfolding elementsFrom
   count-from i zero = refl
@@ -158,13 +118,10 @@ module _ (line : Line) (ok : Accepted line) where
   -- The last of them is the last straight.
   last-from : (i k b : ℕ) (d : Placed) → i + k ≡ line .count → formerST line i ≡ pos (1000 * line .start + b)
       → getD (placedFrom (pos b) (elementsFrom line i k)) (4 * k) d ≡ lastStraight line
-  unfolding elementsFrom placedFrom lastStraight formerST spiralAt
+  unfolding elementsFrom placedFrom formerST spiralAt
   last-from i zero b d n f =
       let all : i ≡ line .count = omega arith in
-      let begins : pos b ≡ formerST line i -ℤ pos (1000 * line .start) =
-      sym (ap (λ (z : ℤ). z -ℤ pos (1000 * line .start)) f ∙ minus-le (let h : 1000 * line .start ≤ 1000 * line .start + b = omega arith in h) ∙ ap pos (omega arith)) in
-      (λ j. record { element = straightElement line i; begin = begins j })
-      ∙ (λ j. record { element = straightElement line (all j); begin = formerST line (all j) -ℤ pos (1000 * line .start) })
+      ap (λ (k : ℕ). record { element = straightElement line k; begin = pos b }) all ∙ sym (last-begins line b (sym (ap (formerST line) all) ∙ f))
   last-from i (suc k) b d n f =
       let s = ok .straight i (omega arith) in
       let D = ok .arc i (omega arith) in
@@ -176,8 +133,8 @@ module _ (line : Line) (ok : Accepted line) where
   abbrev n : ℕ
   n = line .count
 
-  all : Sum 0 n
-  all = lengths-from 0 n (omega arith)
+  all : Sum line 0 n
+  all = lengths-from line ok 0 n (omega arith)
 
   -- The line's length is what its elements add up to.
   long : lineLength line ≡ pos (all .sum)

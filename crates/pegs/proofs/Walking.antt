@@ -20,17 +20,31 @@ use Rattle.stationing.specs.LineElements.{Element, straightElement, spiralInEle
 use Rattle.stationing.proofs.Accepted.{Accepted}
 use Rattle.pegs.specs.Pegs.{holds, lastStraight, holding, elementUnder, PegValues, pegOn, pegBy, stationCheck}
 use Rattle.pegs.specs.Steps.{plainPeg, spiralPeg, pegInCurve}
+use Rattle.pegs.proofs.ElementLengths.{total-is, Sum, lengths-from}
 
--- ---- one element: it holds the length, or lies before it
+-- ---- one element: it holds the length, begins later, or has ended
 
-module _ (along b l : ℕ) (e : Element) (es : List Element) (last : Placed) (is : e .length ≡ pos l) where
-  pub held : b ≤ along → along < b + l → holding (pos along) (placedFrom (pos b) (e ∷ es)) last ≡ record { element = e; begin = pos b }
-  unfolding placedFrom holding holds
-  held h k = rw (is, le-leb b along h, lt-ltb along (b + l) k)
+module _ (along b l : ℕ) (e : Element) (is : e .length ≡ pos l) where
+  pub first-held : b ≤ along → along < b + l → holds (pos along) (record { element = e; begin = pos b }) ≡ true
+  unfolding holds
+  first-held h k = rw (is, le-leb b along h, lt-ltb along (b + l) k)
 
-  pub gone-by : b + l ≤ along → holding (pos along) (placedFrom (pos b) (e ∷ es)) last ≡ holding (pos along) (placedFrom (pos (b + l)) es) last
-  unfolding placedFrom holding holds
-  gone-by h = rw (is, le-leb b along (omega arith), le-ltb along (b + l) h)
+  pub not-begun : along < b → holds (pos along) (record { element = e; begin = pos b }) ≡ false
+  unfolding holds
+  not-begun h = rw (lt-leb b along h)
+
+  pub ended : b + l ≤ along → holds (pos along) (record { element = e; begin = pos b }) ≡ false
+  unfolding holds
+  ended h = rw (is, le-leb b along (omega arith), le-ltb along (b + l) h)
+
+  module _ (es : List Element) (last : Placed) where
+    pub held : b ≤ along → along < b + l → holding (pos along) (placedFrom (pos b) (e ∷ es)) last ≡ record { element = e; begin = pos b }
+    unfolding placedFrom holding
+    held h k = rw (first-held h k)
+
+    pub gone-by : b + l ≤ along → holding (pos along) (placedFrom (pos b) (e ∷ es)) last ≡ holding (pos along) (placedFrom (pos (b + l)) es) last
+    unfolding placedFrom holding
+    gone-by h = rw (ended h, is)
 
 -- ---- the line
 
@@ -42,30 +56,22 @@ pub record Reached (line : Line) (along i curves b : ℕ) : Type 0 where
   pub under : elementUnder line (pos along) ≡ holding (pos along) (placedFrom (pos b) (elementsFrom line i curves)) (lastStraight line)
   pub left : lineLength line ≡ pos b +ℤ total (elementsFrom line i curves)
 
+-- The last straight begins at the length b where the ST before it does.
+pub last-begins : (line : Line) (b : ℕ) → formerST line (line .count) ≡ pos (1000 * line .start + b)
+    → lastStraight line ≡ record { element = straightElement line (line .count); begin = pos b }
+unfolding lastStraight
+last-begins line b f =
+    let start = 1000 * line .start in
+    let at-b : formerST line (line .count) -ℤ pos start ≡ pos b =
+    ap (λ (z : ℤ). z -ℤ pos start) f ∙ minus-le (let h : start ≤ start + b = omega arith in h) ∙ ap pos (omega arith) in
+    rw at-b
+
 -- A length lies on the line, and this is its peg.
 pub record PegFound (line : Line) (along : ℕ) (peg : PegValues) : Type 0 where
   pub inside : leZ (pos along) (lineLength line) ≡ true
   pub same : peg ≡ pegBy line (pos along)
 
--- A whole number that is natural.
-record Natural (z : ℤ) : Type 0 where
-  value : ℕ
-  same : z ≡ pos value
-
 module _ (line : Line) (ok : Accepted line) where
-  -- What is left is not below zero.
-  rest-natural : (i k : ℕ) → i + k ≡ line .count → Natural (total (elementsFrom line i k))
-  unfolding elementsFrom total spiralAt
-  rest-natural i zero n =
-      let s = ok .straight i (omega arith) in
-      record { value = s .value + 0; same = rw (s .same) }
-  rest-natural i (suc k) n =
-      let s = ok .straight i (omega arith) in
-      let d = ok .arc i (omega arith) in
-      let L = 1000 * curveAt line i .spiral in
-      let rest = rest-natural (suc i) k (omega arith) in
-      record { value = s .value + (L + (d .value + (L + rest .value))); same = rw (s .same, d .same, rest .same) }
-
   module _ (along : ℕ) where
     pub from-start : Reached line along 0 (line .count) 0
     unfolding formerST elementUnder placedElements elementsOf lineLength
@@ -95,15 +101,15 @@ module _ (line : Line) (ok : Accepted line) where
       on-straight zero r h l =
           record {
             inside = not-beyond (b + (s + 0)) (r .left ∙ rw (← straight)) (omega arith);
-            same = straight-peg h (r .under) (held along b s (straightElement line i) [] (lastStraight line) (sym straight) h l);
+            same = straight-peg h (r .under) (held along b s (straightElement line i) (sym straight) [] (lastStraight line) h l);
           }
       on-straight (suc k) r h l =
           let d = ok .arc i (omega (arith, r .all)) in
           let L = 1000 * curveAt line i .spiral in
-          let rest = rest-natural (suc i) k (omega (arith, r .all)) in
+          let rest = lengths-from line ok (suc i) k (omega (arith, r .all)) in
           record {
-            inside = not-beyond (b + (s + (L + (d .value + (L + rest .value))))) (r .left ∙ rw (← straight, d .same, rest .same)) (omega arith);
-            same = straight-peg h (r .under) (held along b s (straightElement line i) _ (lastStraight line) (sym straight) h l);
+            inside = not-beyond (b + (s + (L + (d .value + (L + rest .sum))))) (r .left ∙ rw (← straight, d .same, total-is (rest .lengths))) (omega arith);
+            same = straight-peg h (r .under) (held along b s (straightElement line i) (sym straight) _ (lastStraight line) h l);
           }
 
       -- ---- in the curve behind it
@@ -122,15 +128,15 @@ module _ (line : Line) (ok : Accepted line) where
 
         behind-straight : TS ≤ along → elementUnder line (pos along) ≡ holding (pos along) (placedFrom (pos TS) curve) (lastStraight line)
         unfolding elementsFrom
-        behind-straight h = r .under ∙ gone-by along b s (straightElement line i) _ (lastStraight line) (sym straight) h
+        behind-straight h = r .under ∙ gone-by along b s (straightElement line i) (sym straight) _ (lastStraight line) h
 
         -- What is left behind the curve.
-        rest : Natural (total (elementsFrom line (suc i) k))
-        rest = rest-natural (suc i) k (omega (arith, r .all))
+        rest : Sum line (suc i) k
+        rest = lengths-from line ok (suc i) k (omega (arith, r .all))
 
-        whole-line : lineLength line ≡ pos (b + (s + (L + (d + (L + rest .value)))))
+        whole-line : lineLength line ≡ pos (b + (s + (L + (d + (L + rest .sum)))))
         unfolding elementsFrom total spiralAt
-        whole-line = r .left ∙ rw (← straight, ← arc, rest .same)
+        whole-line = r .left ∙ rw (← straight, ← arc, total-is (rest .lengths))
 
         -- The peg of the element that is under the length.
         under-peg : {p : Placed} {peg : PegValues} → elementUnder line (pos along) ≡ p → peg ≡ pegOn line (pos along) p → peg ≡ pegBy line (pos along)
@@ -146,7 +152,7 @@ module _ (line : Line) (ok : Accepted line) where
           unfolding spiralAt
           on-spiral-in l =
               under-peg
-              (behind-straight h ∙ held along TS L (spiralInElement line i) _ (lastStraight line) refl h l)
+              (behind-straight h ∙ held along TS L (spiralInElement line i) refl _ (lastStraight line) h l)
               (rw (minus-le h, entry))
 
           on-arc : TS + L ≤ along → along < TS + L + d → plainPeg Arc (suc i) (along - TS - L) ≡ pegBy line (pos along)
@@ -155,8 +161,8 @@ module _ (line : Line) (ok : Accepted line) where
               let from-SC : along - TS - L ≡ along - (TS + L) = omega arith in
               under-peg
               (behind-straight h
-              ∙ gone-by along TS L (spiralInElement line i) _ (lastStraight line) refl g
-              ∙ held along (TS + L) d (arcElement line i) _ (lastStraight line) (sym arc) g l)
+              ∙ gone-by along TS L (spiralInElement line i) refl _ (lastStraight line) g
+              ∙ held along (TS + L) d (arcElement line i) (sym arc) _ (lastStraight line) g l)
               (rw (minus-le g, from-SC))
 
           on-spiral-out : TS + L + d ≤ along → along < TS + L + d + L
@@ -166,9 +172,9 @@ module _ (line : Line) (ok : Accepted line) where
               let back : TS + L + d + L - along ≡ L + d + L - (along - TS) = omega arith in
               under-peg
               (behind-straight h
-              ∙ gone-by along TS L (spiralInElement line i) _ (lastStraight line) refl (omega arith)
-              ∙ gone-by along (TS + L) d (arcElement line i) _ (lastStraight line) (sym arc) g
-              ∙ held along (TS + L + d) L (spiralOutElement line i) _ (lastStraight line) refl g l)
+              ∙ gone-by along TS L (spiralInElement line i) refl _ (lastStraight line) (omega arith)
+              ∙ gone-by along (TS + L) d (arcElement line i) (sym arc) _ (lastStraight line) g
+              ∙ held along (TS + L + d) L (spiralOutElement line i) refl _ (lastStraight line) g l)
               (rw (minus-le (let k : along ≤ TS + L + d + L = omega arith in k), back, entry))
 
         pub in-curve : b + s ≤ along → along - (b + s) < 2000 * curveAt line i .spiral + d
@@ -176,7 +182,7 @@ module _ (line : Line) (ok : Accepted line) where
         unfolding pegInCurve
         in-curve h l =
             record {
-              inside = not-beyond (b + (s + (L + (d + (L + rest .value))))) whole-line (omega arith);
+              inside = not-beyond (b + (s + (L + (d + (L + rest .sum))))) whole-line (omega arith);
               same = by-part (decLt inside L) (decLt inside (L + d));
             }
           where
@@ -194,28 +200,20 @@ module _ (line : Line) (ok : Accepted line) where
             let far : b + s + L + d + L ≡ b + s + (2000 * curveAt line i .spiral + d) = omega arith in
             let under =
             behind-straight (omega arith)
-            ∙ gone-by along (b + s) L (spiralInElement line i) _ (lastStraight line) refl (omega arith)
-            ∙ gone-by along (b + s + L) d (arcElement line i) _ (lastStraight line) (sym arc) (omega arith)
-            ∙ gone-by along (b + s + L + d) L (spiralOutElement line i) _ (lastStraight line) refl (omega arith)
+            ∙ gone-by along (b + s) L (spiralInElement line i) refl _ (lastStraight line) (omega arith)
+            ∙ gone-by along (b + s + L) d (arcElement line i) (sym arc) _ (lastStraight line) (omega arith)
+            ∙ gone-by along (b + s + L + d) L (spiralOutElement line i) refl _ (lastStraight line) (omega arith)
             ∙ ap (λ (n : ℕ). holding (pos along) (placedFrom (pos n) (elementsFrom line (suc i) k)) (lastStraight line)) far in
             record {
               all = omega (arith, r .all);
               begin = rw (r .begin, ← straight, ← arc) (ap pos (omega arith));
               under = under;
-              left = whole-line ∙ rw (rest .same) (ap pos (omega arith));
+              left = whole-line ∙ rw (total-is (rest .lengths)) (ap pos (omega arith));
             }
 
     -- ---- on the last straight, and beyond it
 
     module _ (b s : ℕ) (straight : pos s ≡ straightAt line (line .count)) (r : Reached line along (line .count) 0 b) where
-      last-begins : lastStraight line ≡ record { element = straightElement line (line .count); begin = pos b }
-      unfolding lastStraight
-      last-begins =
-          let n = line .count in
-          let at-b : formerST line n -ℤ pos (1000 * line .start) ≡ pos b =
-          ap (λ (z : ℤ). z -ℤ pos (1000 * line .start)) (r .begin) ∙ minus-le (let k : 1000 * line .start ≤ 1000 * line .start + b = omega arith in k) ∙ ap pos (omega arith) in
-          rw at-b
-
       line-ends : lineLength line ≡ pos (b + (s + 0))
       unfolding elementsFrom total
       line-ends = r .left ∙ rw (← straight)
@@ -233,8 +231,8 @@ module _ (line : Line) (ok : Accepted line) where
 
           by-end : Dec (along < b + s)
               → holding (pos along) (placedFrom (pos b) (elementsFrom line (line .count) 0)) (lastStraight line) ≡ record { element = straightElement line (line .count); begin = pos b }
-          by-end (yes k) = held along b s last [] (lastStraight line) (sym straight) h k
-          by-end (no k) = gone-by along b s last [] (lastStraight line) (sym straight) (omega arith) ∙ last-begins
+          by-end (yes k) = held along b s last (sym straight) [] (lastStraight line) h k
+          by-end (no k) = gone-by along b s last (sym straight) [] (lastStraight line) (omega arith) ∙ last-begins line b (r .begin)
 
       pub beyond : b + s < along → leZ (pos along) (lineLength line) ≡ false
       beyond h = rw (line-ends, lt-leb along (b + (s + 0)) (omega arith))
