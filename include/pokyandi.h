@@ -63,7 +63,7 @@ static inline const char *pokyandi_words(uint32_t refusal) {
     case POKYANDI_SHORT_ARC: return "arc under 1 mm";
     case POKYANDI_SHORT_STRAIGHT: return "straight under 1 mm";
     case POKYANDI_SMALL_BUFFER: return "buffer too small for the answer";
-    case POKYANDI_STATION: return "station outside the line";
+    case POKYANDI_STATION: return "station below the start of the line or beyond its end";
     default: return "unknown refusal";
     }
 }

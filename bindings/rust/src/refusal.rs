@@ -114,7 +114,7 @@ impl Reason {
             Reason::ShortArc => "arc under 1 mm",
             Reason::ShortStraight => "straight under 1 mm",
             Reason::SmallBuffer => "buffer too small for the answer",
-            Reason::Station => "station outside the line",
+            Reason::Station => "station below the start of the line or beyond its end",
             Reason::Unknown(_) => "unknown refusal",
         }
     }
