@@ -218,7 +218,5 @@ fn form(name: &OsStr) -> Result<Form, String> {
 }
 
 fn every(word: &OsStr) -> Result<Every, String> {
-    let word = word.to_string_lossy();
-    let forms = "a length of whole mm above 0, such as 20m, 500mm, 0+020km or 1+0e";
-    Every::read(&word).ok_or(format!("--every takes {forms}, not {word}"))
+    Every::read(&word.to_string_lossy()).map_err(|words| format!("--every {words}"))
 }

@@ -89,7 +89,7 @@ curve, and the end. Where several of them meet there is one line; without a spir
 that is TS=SC, and CS=ST. Of each it prints, lengths in metres:
 
   STATION   in the form that --as asks for
-  POINT     START, TS, SC, CS, ST or END, else -
+  POINT     START, TS, SC, CS, ST or END, else -, in csv nothing
   ELEMENT   straight, spiral-in, arc or spiral-out; where two meet, the one that
             begins there
   NUMBER    of the curve; straights count from 0, the one before curve 1
@@ -103,8 +103,9 @@ that is TS=SC, and CS=ST. Of each it prints, lengths in metres:
                    refused one REFUSED, number and place stand for the point
   --list FILE      the sheets are those that FILE names, a line each
 
-Without a sheet it reads standard input, as for the name -. A distance that would
-give more than 1000000 pegs on a line is an error.
+Without a sheet it reads standard input, as for the name -. Several sheets each get
+a line SHEET NAME above their list, but for csv; one that is refused or cannot be
+read does not stop the others. More than 1000000 distances on a line are an error.
 
     $ pokyandi pegs --every 50m --as km samples/stations/case-01.sheet | head -n 12
               STATION POINT ELEMENT    NUMBER       LENGTH          X          Y

@@ -20,6 +20,8 @@ pub struct Quantity {
 
 /// How lengths are written, for messages.
 const LENGTH_FORMS: &str = "310500 (mm), 310.5m, 12+340.5km or 617+0.00e";
+/// How they are written where no unit means metres.
+const METRE_FORMS: &str = "20m, 20 (m), 500mm, 0+020km or 1+0e";
 /// How angles are written, for messages.
 const ANGLE_FORMS: &str = "177764 (seconds), 49d22m44s, 49.5d or 49°22'44\"";
 
@@ -54,10 +56,13 @@ pub fn length(word: &str) -> Result<Quantity, String> {
 /// A length in mm; without a unit it is in metres.
 pub fn length_in_metres(word: &str) -> Result<Quantity, String> {
     let has_unit = unit_begin(word) < word.len() || word.contains('+');
-    let value = match has_unit {
-        true => length(word)?.value,
-        false => length(&format!("{word}m"))?.value,
+    let length = match has_unit {
+        true => length(word),
+        false => length(&format!("{word}m")),
     };
+    let value = length
+        .map_err(|words| words.replace(LENGTH_FORMS, METRE_FORMS))?
+        .value;
     Ok(Quantity { value, has_unit })
 }
 

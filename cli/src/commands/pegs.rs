@@ -10,8 +10,7 @@ use pokyandi::{peg, Refusal, PEG_NUMBERS};
 use std::io;
 use std::iter::once;
 
-/// How many distances between pegs a line may have; the list is then at most some
-/// 80 MB long.
+/// How many distances between pegs a line may have.
 const MOST: u64 = 1_000_000;
 
 /// The distance between pegs.
@@ -28,14 +27,19 @@ impl Every {
     };
 
     /// The distance that a word says, in metres where it names no unit.
-    pub fn read(word: &str) -> Option<Every> {
+    pub fn read(word: &str) -> Result<Every, String> {
         /// From here on mm were probably meant.
         const DOUBTFUL: u64 = 1_000_000;
-        let Quantity { value, has_unit } = length_in_metres(word).ok()?;
+        let Quantity { value, has_unit } = length_in_metres(word)?;
+        let um = value.checked_mul(1_000);
+        let um = um.ok_or_else(|| format!("{word} is too large"))?;
+        if um == 0 {
+            return Err(format!("{word} is no distance between pegs"));
+        }
         let is_doubtful = !has_unit && value >= DOUBTFUL;
-        let doubt = || format!("{word} is {}; for mm write {word}mm", metres_of_mm(value));
-        Some(Every {
-            um: value.checked_mul(1_000).filter(|um| *um > 0)?,
+        let doubt = || format!("{word} is {}; mm are written mm", metres_of_mm(value));
+        Ok(Every {
+            um,
             doubt: is_doubtful.then(doubt),
         })
     }
@@ -114,7 +118,7 @@ fn stops(sheet: &[u8]) -> Result<Vec<Stop>, Refusal> {
 fn too_many(stops: &[Stop], every: u64) -> Option<String> {
     let length = stops.last()?.station - stops.first()?.station;
     let least = metres_of_mm(length / (MOST + 1) / 1_000 + 1);
-    let words = format!("more than {MOST} pegs; --every may be {least} or more here");
+    let words = format!("more than {MOST} distances; --every may be {least} or more here");
     (length / every > MOST).then_some(words)
 }
 
@@ -223,26 +227,42 @@ mod tests {
     fn distances_and_their_units() {
         let um = |word: &str| Every::read(word).map(|every| every.um);
         for word in ["20m", "20", "20.000", "20,0m", "20000mm", "0+020km", "1+0e"] {
-            assert_eq!(um(word), Some(Every::USUAL.um), "{word}");
+            assert_eq!(um(word), Ok(Every::USUAL.um), "{word}");
         }
-        for word in [
-            "",
-            "m",
-            "0",
-            "0mm",
-            "-20",
-            "20.0005",
-            "0+20",
-            "20M",
-            "999999999999999999",
+        for (word, words) in [
+            (
+                "",
+                "m is no length: write 20m, 20 (m), 500mm, 0+020km or 1+0e",
+            ),
+            ("0", "0 is no distance between pegs"),
+            ("0mm", "0mm is no distance between pegs"),
+            (
+                "-20",
+                "-20m is no length: write 20m, 20 (m), 500mm, 0+020km or 1+0e",
+            ),
+            ("20.0005", "20.0005m is finer than a mm"),
+            (
+                "0+20",
+                "0+20 has no unit: write 20m, 20 (m), 500mm, 0+020km or 1+0e",
+            ),
+            (
+                "20M",
+                "20M is no length: write 20m, 20 (m), 500mm, 0+020km or 1+0e",
+            ),
+            (
+                "1km",
+                "1km lacks the + before its metres: write 20m, 20 (m), 500mm, 0+020km or 1+0e",
+            ),
+            ("99999999999999999m", "99999999999999999m is too large"),
+            ("18446744073709552mm", "18446744073709552mm is too large"),
         ] {
-            assert_eq!(um(word), None, "{word}");
+            assert_eq!(um(word).unwrap_err(), words, "{word}");
         }
-        assert_eq!(um("1mm"), Some(1_000));
-        let doubt = |word: &str| Every::read(word).and_then(|every| every.doubt);
+        assert_eq!(um("1mm"), Ok(1_000));
+        let doubt = |word: &str| Every::read(word).unwrap().doubt;
         assert_eq!(
             doubt("20000").unwrap(),
-            "20000 is 20000.000 m; for mm write 20000mm"
+            "20000 is 20000.000 m; mm are written mm"
         );
         assert_eq!(
             [doubt("20000m"), doubt("999.999"), doubt("1+0km")],
@@ -259,7 +279,7 @@ mod tests {
             };
             too_many(&[0, length].map(stop), every)
         };
-        let words = "more than 1000000 pegs; --every may be 0.024 m or more here";
+        let words = "more than 1000000 distances; --every may be 0.024 m or more here";
         assert_eq!(told(23_675_347_789, 23_000).as_deref(), Some(words));
         assert_eq!(told(23_675_347_789, 24_000), None);
         assert_eq!(told(1_000_000_999, 1_000), None);

@@ -132,7 +132,7 @@ fn the_usual_distance_in_every_unit_and_from_standard_input() {
     assert_eq!(run_with_input(&["pegs"], &sheet), usual);
     assert_eq!(run_with_input(&["pegs", "--every=20m", "-"], &sheet), usual);
     let km = run(&["pegs", "--every", "20000", name]);
-    let words = "pokyandi: warning: --every 20000 is 20000.000 m; for mm write 20000mm\n";
+    let words = "pokyandi: warning: --every 20000 is 20000.000 m; mm are written mm\n";
     assert_eq!((km.words.as_str(), km.status), (words, Some(0)));
     assert_eq!(km.out, run(&["pegs", "--every", "20000m", name]).out);
 }
@@ -156,8 +156,9 @@ fn refused_sheets_are_told_as_by_stations() {
 fn a_list_that_would_be_too_long_does_not_stop_the_others() {
     let [long, short] = ["stations/mountain-road.sheet", "stations/case-09.sheet"];
     let run = run(&["pegs", "--every", "10mm", long, short]);
-    let words =
-        format!("pokyandi: {long}: more than 1000000 pegs; --every may be 0.012 m or more here\n");
+    let words = format!(
+        "pokyandi: {long}: more than 1000000 distances; --every may be 0.012 m or more here\n"
+    );
     assert_eq!((run.words, run.status), (words, Some(2)));
     let text = String::from_utf8(run.out).unwrap();
     assert!(text.starts_with(&format!("SHEET {short}\n          STATION POINT ")));
