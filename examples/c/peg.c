@@ -2,7 +2,7 @@
  *
  *     peg FILE STATION..     a station is in metres, with six decimals at most
  *
- * Exit status: 0 all are printed, 1 the sheet or a station is refused, 2 the sheet cannot be read, or a station is none.
+ * Exit status: 0 all are printed, 1 one is refused, 2 the sheet cannot be read, or a station is none.
  */
 #include "show.h"
 

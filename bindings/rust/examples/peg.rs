@@ -2,8 +2,8 @@
 //!
 //!     peg FILE STATION..     a station is in metres, with six decimals at most
 //!
-//! Exit status: 0 all are printed, 1 the sheet or a station is refused, 2 the
-//! sheet cannot be read, or a station is none.
+//! Exit status: 0 all are printed, 1 one is refused, 2 the sheet cannot be read, or
+//! a station is none.
 
 mod show;
 
@@ -15,7 +15,8 @@ use std::process::{exit, ExitCode};
 fn main() -> ExitCode {
     with_sheet("peg", |sheet| {
         let mut printed = Ok(());
-        for word in env::args().skip(2) {
+        for word in env::args_os().skip(2) {
+            let word = word.to_string_lossy();
             let Some(station) = station(&word) else {
                 eprintln!("peg: {word}: no station in metres");
                 exit(2);
