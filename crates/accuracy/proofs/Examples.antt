@@ -16,10 +16,12 @@ use Rattle.line.specs.declared.Line.{Line}
 use Rattle.line.specs.Checks.{startCheck, headChecks, distanceCheck, curveChecks, bodyChecks, lineChecks}
 use Rattle.elements.specs.WorkingRule.{rounded, fullAngle, halfAngle, spiralAngle, term, alternating, sineOf, cosineOf, t2, t3, t4, unitX, unitY, spiralX, spiralY, centreOf, shiftOf, arcOf, tanOf, tangentOf}
 use Rattle.elements.specs.Answer.{arcCheck}
+use Rattle.elements.specs.SpiralPoint.{partTo, angleTo, offsetX, offsetY}
 use Rattle.stationing.specs.RoadTables.{underSpeed, frictionAt, leastSpiralAt, radiusServes, spiralServes}
 use Rattle.stationing.specs.Stations.{spiralAt, arcAt, tangentAt, tangentBefore, tangentAfter, straightAt, formerST, pointsAt, endOf, curveStations, stationsOf, stationRow}
 use Rattle.stationing.specs.Answer.{designChecks, designChecksAt, straightCheck, alignmentChecks, stationsIn}
 use Rattle.accuracy.specs.Fractions.{Fraction, whole, nat, _⊕_, _⊖_, _⊗_, _↑_, _⊘_, over, ratio, _≼_, _≺_, _≈_}
+use Rattle.accuracy.specs.ExactOffsets.{exactAngleTo, exactOffsetX, exactOffsetY, OffsetsWithin}
 use Rattle.accuracy.specs.ExactElements.{exactPi, exactAngle, exactHalfAngle, exactSpiralAngle, alternatingSum, factorial, exactSine, exactCosine, documentTerms, exactX, exactY, exactCentre, exactShift, exactArc, exactTan, exactTangent}
 use Rattle.accuracy.specs.ExactStations.{exactSpiralAt, exactArcAt, exactTangentAt, exactTangentBefore, exactTangentAfter, exactStraightAt, exactFormerST, exactPointsAt, exactEnd}
 use Rattle.accuracy.specs.Accuracy.{Within, ElementsWithin, tolerance, tenths, leastStraight, leastArc, refusedStraight, refusedArc}
@@ -95,6 +97,10 @@ pub record Examples : Type 0 where
   pub cosine-of-1 : exactCosine documentTerms (nat 1) ≈ nat 47102631757 ⊘ 87178291200
   pub case-1-X : Billionths 39986940749996 (exactX 350000 40000)
   pub case-1-Y : Billionths 761727058170 (exactY 350000 40000)
+  pub half-way-x : Billionths 19999591840591 (exactOffsetX 350000 40000 20000000)
+  pub half-way-y : Billionths 95236706927 (exactOffsetY 350000 40000 20000000)
+  -- A point whose y is 1.649 µm short of the exact one.
+  pub short-offset : OffsetsWithin 494974 490748 463501381
   pub case-1-k : Billionths 19997823326838 (exactCentre documentTerms 350000 40000)
   pub case-1-p : Billionths 190453960586 (exactShift documentTerms 350000 40000)
   pub case-1-D : Billionths 261638467230644 (exactArc 177764 350000 40000)
@@ -117,13 +123,16 @@ pub record Examples : Type 0 where
   pub case-7-arc : exactArcAt (shortArc 23573) 0 ≺ tenths refusedArc
 
 pub examples : Examples
-unfolding firstOf startCheck headChecks distanceCheck curveChecks bodyChecks lineChecks arcCheck underSpeed frictionAt leastSpiralAt radiusServes spiralServes designChecks designChecksAt straightCheck alignmentChecks withRoom fill stationsIn rounded fullAngle halfAngle spiralAngle term alternating sineOf cosineOf t2 t3 t4 unitX unitY spiralX spiralY centreOf shiftOf arcOf tanOf tangentOf spiralAt arcAt tangentAt tangentBefore tangentAfter straightAt formerST pointsAt endOf curveStations stationsOf stationRow whole _⊕_ _⊖_ _⊗_ _↑_ _⊘_ over ratio exactPi exactAngle exactHalfAngle exactSpiralAngle alternatingSum factorial exactSine exactCosine exactX exactY exactCentre exactShift exactArc exactTan exactTangent exactSpiralAt exactArcAt exactTangentAt exactTangentBefore exactTangentAfter exactStraightAt exactFormerST exactPointsAt exactEnd
+unfolding firstOf startCheck headChecks distanceCheck curveChecks bodyChecks lineChecks arcCheck underSpeed frictionAt leastSpiralAt radiusServes spiralServes designChecks designChecksAt straightCheck alignmentChecks withRoom fill stationsIn rounded fullAngle halfAngle spiralAngle term alternating sineOf cosineOf t2 t3 t4 unitX unitY spiralX spiralY centreOf shiftOf arcOf tanOf tangentOf spiralAt arcAt tangentAt tangentBefore tangentAfter straightAt formerST pointsAt endOf curveStations stationsOf stationRow whole _⊕_ _⊖_ _⊗_ _↑_ _⊘_ over ratio exactPi exactAngle exactHalfAngle exactSpiralAngle alternatingSum factorial exactSine exactCosine exactX exactY exactCentre exactShift exactArc exactTan exactTangent exactSpiralAt exactArcAt exactTangentAt exactTangentBefore exactTangentAfter exactStraightAt exactFormerST exactPointsAt exactEnd exactAngleTo exactOffsetX exactOffsetY partTo angleTo offsetX offsetY
 examples =
     record {
       sine-of-1 = equal tt tt;
       cosine-of-1 = equal tt tt;
       case-1-X = decimals tt tt;
       case-1-Y = decimals tt tt;
+      half-way-x = decimals tt tt;
+      half-way-y = decimals tt tt;
+      short-offset = record { x = near tt tt; y = near tt tt };
       case-1-k = decimals tt tt;
       case-1-p = decimals tt tt;
       case-1-D = decimals tt tt;

@@ -4,15 +4,23 @@ use Prim.Native.Nat.{ℕ, zero, _+_, _*_, _/_, _^_, _≤_, _<_}
 use native.Mathlib.Nat.{mul-pos, mul-comm, one-mul, pow-zero, pow-suc}
 use native.Mathlib.Decide.{decLt}
 use native.Mathlib.Omega.{arith}
-use lib.Dec.{lit<, lit≤}
+use lib.Dec.{lit<, lit≤, leb}
 use lib.IntN.{ℤ, pos, _*ℤ_, zero-*ℤ}
+use borrow.Author.Tests.{leb-true}
 use Rattle.numbers.proofs.Products.{products}
+use Rattle.refusals.specs.Order.{outcome}
+use Rattle.refusals.specs.Replying.{answered}
+use Rattle.refusals.proofs.Joining.{passed-left, passed-right, need-holds}
+use Rattle.refusals.proofs.Replied.{replied}
+use Rattle.line.specs.Checks.{curveChecks}
 use Rattle.line.specs.Ranges.{CurveInRange}
+use Rattle.line.proofs.InRange.{curve-in-range}
 use Rattle.elements.specs.WorkingRule.{scale, rounded}
-use Rattle.elements.specs.SpiralPoint.{partTo, angleTo, offsetX, offsetY, Offsets, offsetsBy}
+use Rattle.elements.specs.SpiralPoint.{partTo, angleTo, offsetX, offsetY, Offsets, offsetsBy, insideCheck, pointChecks, pointReply}
 use Rattle.elements.proofs.SpiralPoints.{part-most, at-outer-end}
 use Rattle.accuracy.specs.Fractions.{Fraction, whole, nat, _⊗_, _↑_, _⊘_}
 use Rattle.accuracy.specs.ExactElements.{exactSpiralAngle, exactUnitX, exactUnitY}
+use Rattle.accuracy.specs.Accuracy.{Within}
 use Rattle.accuracy.specs.ExactOffsets.{exactAngleTo, exactOffsetX, exactOffsetY, offsetTolerance, OffsetsWithin}
 use Rattle.accuracy.proofs.Parts.{plus, minus}
 use Rattle.accuracy.proofs.Nearness.{Near, Same, near-of, loosen, near-nat, near-multiple, near-part, near-down}
@@ -171,3 +179,17 @@ offsets-within A R L l ok on =
       x = within offsetTolerance (near .x) (lit≤ tt) (lit≤ tt);
       y = within offsetTolerance (near .y) (lit≤ tt) (lit≤ tt);
     }
+
+-- The same for a caller of `spiral_point`, of the offsets that he got.
+pub points-accurate : (R L l : ℕ) (o : Offsets) → answered o ≡ pointReply R L l
+    → Within offsetTolerance (o .x) (exactOffsetX R L l) × Within offsetTolerance (o .y) (exactOffsetY R L l)
+unfolding pointReply pointChecks insideCheck offsetsBy
+points-accurate R L l o e =
+    let told = replied (pointChecks R L l) (offsetsBy R L l) e in
+    let ok = curve-in-range 1 R L 0 (passed-left (outcome (curveChecks 1 R L 0)) _ (told .0)) in
+    let on : l ≤ 1000 * L = leb-true l (1000 * L) (need-holds (leb l (1000 * L)) 17 0 (passed-right (outcome (curveChecks 1 R L 0)) _ (told .0))) in
+    let near = offsets-within 1 R L l ok on in
+    let same = sym (told .1) in (
+      subst (λ (z : ℤ). Within offsetTolerance z (exactOffsetX R L l)) (ap (λ (p : Offsets). p .x) same) (near .x),
+      subst (λ (z : ℤ). Within offsetTolerance z (exactOffsetY R L l)) (ap (λ (p : Offsets). p .y) same) (near .y),
+    )

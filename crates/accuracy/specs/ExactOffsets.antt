@@ -14,7 +14,7 @@ use Rattle.stationing.specs.declared.ElementKind.{ElementKind}
 use Rattle.stationing.specs.declared.ElementKind.the-variants.{Straight, SpiralIn, Arc, SpiralOut}
 use Rattle.pegs.specs.Pegs.{PegValues}
 
--- "l² / (2RL)", l in mm
+-- "l² / (2RL)", l in mm; an empty spiral has only l = 0, and its quotient by zero is multiplied by that
 unfoldable pub exactAngleTo : ℕ → ℕ → ℕ → Fraction
 exactAngleTo R L l = (nat l ⊘ 1000) ↑ 2 ⊘ (2 * R * L)
 

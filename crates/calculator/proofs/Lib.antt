@@ -1,2 +1,3 @@
 -- Laws of a line's lengths.
 pub mod LengthsKnown
+pub mod Examples

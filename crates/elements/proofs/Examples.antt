@@ -39,6 +39,7 @@ pub record Examples : Type 0 where
   pub rounded-2 : pointReply 511111 499999 413920011 ≡ answered (record { x = pos 409293131; y = pos 45878991 })
   pub rounded-3 : pointReply 511111 499999 442253848 ≡ answered (record { x = pos 435821418; y = pos 55822928 })
   pub rounded-4 : pointReply 511111 499999 497293286 ≡ answered (record { x = pos 485777290; y = pos 78863928 })
+  pub rounded-5 : pointReply 511111 499999 448407112 ≡ answered (record { x = pos 441517244; y = pos 58150611 })
   pub no-spiral : pointReply 350000 0 0 ≡ answered (record { x = pos 0; y = pos 0 })
   pub beyond-spiral : pointReply 350000 40000 40000001 ≡ declined 17 0
   pub beyond-no-spiral : pointReply 350000 0 1 ≡ declined 17 0
@@ -70,6 +71,7 @@ examples =
       rounded-2 = refl;
       rounded-3 = refl;
       rounded-4 = refl;
+      rounded-5 = refl;
       no-spiral = refl;
       beyond-spiral = refl;
       beyond-no-spiral = refl;

@@ -1,4 +1,4 @@
--- Pegs of document 01's case 1, and of a line that begins at 1,000 mm with a curve to the left and a simple curve, from the definitions. Assumes
+-- Pegs of document 01's case 1, and of lines that begin at 1,000 mm with a curve to the left and another behind it, from the definitions. Assumes
 -- nothing.
 use mathlib.Core.Path.{_≡_, refl}
 use mathlib.Core.Bool.{Bool, true, false}
@@ -37,20 +37,27 @@ plain kind number length = at kind number (pos length) (pos 0) (pos 0)
 abbrev one : Line
 one = caseLine 500000 350000 40000
 
--- V 70, e 8, start 1,000; a curve to the left, and one to the right without spirals.
-abbrev curve : Bool → (A L : ℕ) → Curve
-curve left A L = record { left = left; deflection = A; radius = 350000; spiral = L }
+-- V 70, e 8, start 1,000; a curve to the left, and behind it another to the right.
+abbrev curve : Bool → (A R L : ℕ) → Curve
+curve left A R L = record { left = left; deflection = A; radius = R; spiral = L }
 
-abbrev two : Line
-two =
+abbrev behind : Curve → Line
+behind second =
     record {
       speed = 70;
       crossfall = 8;
       start = 1000;
       count = 2;
       distances = 500000 ∷ 500000 ∷ 500000 ∷ [];
-      curves = curve true 177764 40000 ∷ curve false 100000 0 ∷ [];
+      curves = curve true 177764 350000 40000 ∷ second ∷ [];
     }
+
+-- Without spirals, and with others than the first.
+abbrev two : Line
+two = behind (curve false 100000 350000 0)
+
+abbrev three : Line
+three = behind (curve false 100000 400000 50000)
 
 pub record Examples : Type 0 where
   pub start : pegReply one 0 ≡ plain Straight 0 0
@@ -75,6 +82,9 @@ pub record Examples : Type 0 where
   pub no-spiral-in : pegReply two 894115696 ≡ plain Arc 2 0
   pub no-spiral-out : pegReply two 1063800484 ≡ plain Straight 2 0
   pub second-end : pegReply two 1477256269 ≡ plain Straight 2 413455785
+  pub second-in : pegReply three 876691107 ≡ at SpiralIn 2 (pos 20000000) (pos 19999800) (pos 66666)
+  pub second-out : pegReply three 1070616579 ≡ at SpiralOut 2 (pos 30000000) (pos 29998481) (pos 224991)
+  pub left-numbers : stationNumbers three 340010722 ≡ pos 1 ∷ pos 1 ∷ pos 20000000 ∷ pos 19999591 ∷ negℤ (pos 95236) ∷ []
   -- ---- a line without curves, refused lines, and a peg as numbers
   pub no-curve : fill (pegChecks noCurve 250000000) (stationNumbers noCurve 250000000) (replicate 6 (pos 7)) .reply ≡ filled 5
   pub no-curve-numbers : fill (pegChecks noCurve 250000000) (stationNumbers noCurve 250000000) (replicate 6 (pos 7)) .buffer
@@ -110,6 +120,9 @@ examples =
       no-spiral-in = refl;
       no-spiral-out = refl;
       second-end = refl;
+      second-in = refl;
+      second-out = refl;
+      left-numbers = refl;
       no-curve = refl;
       no-curve-numbers = refl;
       sixteen-last = refl;

@@ -12,6 +12,7 @@ use lib.ListN.{length, getD}
 use lib.Signed.{leZ}
 use borrow.Author.Tests.{le-leb, leb-true}
 use Rattle.numbers.proofs.Differences.{minus-le}
+use Rattle.numbers.proofs.Tests.{clash}
 use Rattle.refusals.specs.Outcomes.{passed}
 use Rattle.refusals.specs.Order.{outcome}
 use Rattle.refusals.specs.Replying.{answered}
@@ -65,12 +66,6 @@ module _ (along : ℕ) (d : Placed) where
     here : Held ps index true
     only : (j : ℕ) → j < count → Held ps j true → j ≡ index
     under : holding (pos along) ps last ≡ getD ps index d
-
-  clash : {A : Type 0} {t : Bool} → t ≡ true → t ≡ false → A
-  clash p q =
-      let both : _≡_ {A = Bool} true false = sym p ∙ q in
-      let z : _≡_ {A = ℕ} 0 1 = cc in
-      absurd (omega arith)
 
   held-by-one : {es : List Element} {sum : ℕ} (b : ℕ) (last : Placed) → Lengths es sum → b ≤ along → along < b + sum
       → HeldByOne (placedFrom (pos b) es) (length es) last
@@ -184,7 +179,7 @@ module _ (line : Line) (ok : Accepted line) where
         }
       where
         only : (j : ℕ) → j < elementCount line → (holds (pos along) (elementAt line j) ≡ true) ⊎ ((pos along ≡ lineLength line) × (suc j ≡ elementCount line)) → j ≡ 4 * n
-        only j i (inl h) = clash along (lastStraight line) h (over along (lastStraight line) 0 (all .lengths) (omega arith) j (omega (arith, many, size, i)))
+        only j i (inl h) = clash h (over along (lastStraight line) 0 (all .lengths) (omega arith) j (omega (arith, many, size, i)))
         only j i (inr h) = omega (arith, many, h .1)
 
     one-on-line : OnOneElement line (pos along)

@@ -10,7 +10,7 @@ use lib.Signed.{leZ}
 use borrow.Author.Tests.{lt-ltb, le-ltb}
 use Rattle.numbers.specs.Whole.{Between}
 use Rattle.numbers.proofs.Ranges.{natural}
-use Rattle.numbers.proofs.Tests.{both-left, both-right}
+use Rattle.numbers.proofs.Tests.{both-left, both-right, clash}
 use Rattle.refusals.specs.Outcomes.{passed}
 use Rattle.refusals.specs.Order.{outcome}
 use Rattle.refusals.specs.Replying.{answered}
@@ -32,7 +32,7 @@ use Rattle.pegs.specs.Steps.{plainPeg, spiralPeg, pegInCurve}
 use Rattle.pegs.proofs.Sides.{size-negative}
 use Rattle.pegs.proofs.Walking.{Reached, PegFound, from-start, on-straight, in-curve, next-distance, on-last, beyond}
 
--- The pegs that a line has: on the straight of a distance, or on a curve's arc or one of its spirals, no farther than these are long.
+-- The pegs that a line has: on the straight of a distance, or on a curve's arc or one of its spirals, no farther than these can be long.
 pub data PegOf (line : Line) : PegValues → Type 0 where
   on-a-straight : (i l : ℕ) → i ≤ line .count → l ≤ 20000000000 → PegOf line (plainPeg Straight i l)
   on-an-arc : (i l : ℕ) → i < line .count → l ≤ 10471975510 → PegOf line (plainPeg Arc (suc i) l)
@@ -58,12 +58,6 @@ module _ (line : Line) (ok : Accepted line) (along : ℕ) (inside : leZ (pos alo
   found : {peg : PegValues} → PegFound line along peg → PegOf line peg → PegOf line (pegBy line (pos along))
   found f s = subst (PegOf line) (f .same) s
 
-  clash : {A : Type 0} → leZ (pos along) (lineLength line) ≡ false → A
-  clash e =
-      let both : _≡_ {A = Bool} true false = sym inside ∙ e in
-      let z : _≡_ {A = ℕ} 0 1 = cc in
-      absurd (omega arith)
-
   peg-from : (k i b : ℕ) → Reached line along i k b → b ≤ along → PegOf line (pegBy line (pos along))
   peg-from zero i b r h = at-the-end (decLt (b + s .value) along)
     where
@@ -74,7 +68,7 @@ module _ (line : Line) (ok : Accepted line) (along : ℕ) (inside : leZ (pos alo
       last = subst (λ (n : ℕ). Reached line along n 0 b) (omega (arith, r .all)) r
 
       at-the-end : Dec (b + s .value < along) → PegOf line (pegBy line (pos along))
-      at-the-end (yes p) = clash (beyond line ok along b (s .value) (sym (s .same)) last p)
+      at-the-end (yes p) = clash inside (beyond line ok along b (s .value) (sym (s .same)) last p)
       at-the-end (no p) =
           found (on-last line ok along b (s .value) (sym (s .same)) last h (omega arith))
           (on-a-straight (line .count) (along - b) (omega arith) (omega (arith, s .high)))

@@ -34,37 +34,38 @@ use Rattle.station_report.proofs.Fits.{sheet-numbers, fits}
 use Rattle.pokyandi.specs.Answers.{answerNumber}
 use Rattle.pokyandi.specs.Calls.{sheetStations, sheetPegChecks, sheetPeg, checkReply, sheetNumbers, numbersSheet, elementValues, elementNumbers}
 
--- The upper and the lower half of an answer tell the reply.
-abbrev pub Told : FillReply → Type 0
-Told (filled count) = (answerNumber (filled count) / 2 ^ 32 ≡ 0) × (answerNumber (filled count) % 2 ^ 32 ≡ count)
-Told (unfilled number place) =
+-- The upper and the lower half of an answer tell the reply; the numbers of a call's refusals go up to a greatest one.
+abbrev pub Told : (greatest : ℕ) → FillReply → Type 0
+Told greatest (filled count) = (answerNumber (filled count) / 2 ^ 32 ≡ 0) × (answerNumber (filled count) % 2 ^ 32 ≡ count)
+Told greatest (unfilled number place) =
     (answerNumber (unfilled number place) / 2 ^ 32 ≡ number)
     × (answerNumber (unfilled number place) % 2 ^ 32 ≡ place)
     × (1 ≤ number)
-    × (number ≤ 17)
+    × (number ≤ greatest)
 
 -- A count of at most 32 bits, or a refusal of those numbers, whose place is small.
-outcome-told : (checks : Checks) (o : Outcome) (count : ℕ) → Refuses 1 17 127 checks → outcome checks ≡ o → (o ≡ passed → count < 2 ^ 32) → Told (countAfter o count)
+outcome-told : (most : ℕ) (checks : Checks) (o : Outcome) (count : ℕ) → Refuses 1 most 127 checks → outcome checks ≡ o → (o ≡ passed → count < 2 ^ 32)
+    → Told most (countAfter o count)
 unfolding answerNumber
-outcome-told checks passed count r e h = let small = h refl in (omega arith, omega arith)
-outcome-told checks (refused n p) count r e h =
-    let told = refusal-numbers 1 17 127 checks r e in
+outcome-told most checks passed count r e h = let small = h refl in (omega arith, omega arith)
+outcome-told most checks (refused n p) count r e h =
+    let told = refusal-numbers 1 most 127 checks r e in
     (omega (arith, told .2), omega (arith, told .2), told .0, told .1)
 
-reply-told : {A : Type 0} (checks : Checks) (content lent : List A) → Refuses 1 17 127 checks → (outcome checks ≡ passed → length content < 2 ^ 32)
-    → Told (fill checks content lent .reply)
+reply-told : {A : Type 0} (most : ℕ) → 16 ≤ most → (checks : Checks) (content lent : List A) → Refuses 1 most 127 checks
+    → (outcome checks ≡ passed → length content < 2 ^ 32) → Told most (fill checks content lent .reply)
 unfolding fill withRoom
-reply-told checks content lent r h =
-    outcome-told (withRoom checks content lent) (outcome (withRoom checks content lent)) (length content) (r, λ _. (omega arith, omega arith, omega arith)) refl
+reply-told most room checks content lent r h =
+    outcome-told most (withRoom checks content lent) (outcome (withRoom checks content lent)) (length content) (r, λ _. (omega arith, omega arith, omega arith)) refl
     (λ e. h (passed-left (outcome checks) _ e))
 
 -- ---- the calls
 
 module _ (sheet : List ℕ) where
-  sheet-few : Refuses 1 17 127 (sheetChecks sheet)
+  sheet-few : Refuses 1 16 127 (sheetChecks sheet)
   sheet-few = wider (sheetChecks sheet) (sheet-numbers sheet) (omega arith) (omega arith) (omega arith)
 
-  read-few : Refuses 1 17 127 (readChecks firstEdition sheet)
+  read-few : Refuses 1 16 127 (readChecks firstEdition sheet)
   read-few = wider (readChecks firstEdition sheet) (read-numbers firstEdition sheet) (omega arith) (omega arith) (omega (arith, count-below firstEdition sheet refl))
 
   stations-few : outcome (sheetChecks sheet) ≡ passed → length (sheetStations sheet) < 2 ^ 32
@@ -73,48 +74,48 @@ module _ (sheet : List ℕ) where
       let line = readLine firstEdition sheet in
       omega (arith, row-count line, few line (passed-right (outcome (readChecks firstEdition sheet)) (outcome (alignmentChecks line)) e))
 
-  pub stations-told : (lent : List ℕ) → Told (fill (sheetChecks sheet) (sheetStations sheet) lent .reply)
-  stations-told lent = reply-told (sheetChecks sheet) (sheetStations sheet) lent sheet-few stations-few
+  pub stations-told : (lent : List ℕ) → Told 16 (fill (sheetChecks sheet) (sheetStations sheet) lent .reply)
+  stations-told lent = reply-told 16 (omega arith) (sheetChecks sheet) (sheetStations sheet) lent sheet-few stations-few
 
-  pub check-told : Told (checkReply sheet)
+  pub check-told : Told 15 (checkReply sheet)
   unfolding checkReply
-  check-told = outcome-told (sheetChecks sheet) (outcome (sheetChecks sheet)) (length (sheetStations sheet)) sheet-few refl stations-few
+  check-told = outcome-told 15 (sheetChecks sheet) (outcome (sheetChecks sheet)) (length (sheetStations sheet)) (sheet-numbers sheet) refl stations-few
 
   -- The sheet's own bytes are as many as n calls for, or there is a refusal.
-  pub rewrite-told : (lent : List ℕ) → Told (fill (readChecks firstEdition sheet) sheet lent .reply)
+  pub rewrite-told : (lent : List ℕ) → Told 16 (fill (readChecks firstEdition sheet) sheet lent .reply)
   rewrite-told lent =
-      reply-told (readChecks firstEdition sheet) sheet lent read-few
+      reply-told 16 (omega arith) (readChecks firstEdition sheet) sheet lent read-few
       (λ e. omega (arith, framed firstEdition sheet (frame-passes firstEdition sheet e) .size, count-below firstEdition sheet refl))
 
-  pub read-told : (lent : List ℕ) → Told (fill (readChecks firstEdition sheet) (sheetNumbers sheet) lent .reply)
+  pub read-told : (lent : List ℕ) → Told 16 (fill (readChecks firstEdition sheet) (sheetNumbers sheet) lent .reply)
   unfolding sheetNumbers
   read-told lent =
       let E = firstEdition in
       let line = readLine E sheet in
-      reply-told (readChecks E sheet) (sheetNumbers sheet) lent read-few
+      reply-told 16 (omega arith) (readChecks E sheet) (sheetNumbers sheet) lent read-few
       (λ e. omega (arith, line-length line, line-in-range line (accepted-line E sheet e) .few))
 
-  pub text-told : (lent : List ℕ) → Told (fill unchecked (sheetText sheet) lent .reply)
-  text-told lent = reply-told unchecked (sheetText sheet) lent tt (λ e. omega (arith, fits sheet))
+  pub text-told : (lent : List ℕ) → Told 16 (fill unchecked (sheetText sheet) lent .reply)
+  text-told lent = reply-told 16 (omega arith) unchecked (sheetText sheet) lent tt (λ e. omega (arith, fits sheet))
 
-pub peg-told : (sheet : List ℕ) (station : ℕ) (lent : List ℤ) → Told (fill (sheetPegChecks sheet station) (sheetPeg sheet station) lent .reply)
+pub peg-told : (sheet : List ℕ) (station : ℕ) (lent : List ℤ) → Told 17 (fill (sheetPegChecks sheet station) (sheetPeg sheet station) lent .reply)
 unfolding sheetPegChecks sheetPeg stationNumbers sheetChecks pegChecks stationCheck
 peg-told sheet station lent =
-    let few = sheet-few sheet in
-    reply-told (sheetPegChecks sheet station) (sheetPeg sheet station) lent (few .0, λ h. (few .1 h, λ _. (omega arith, omega arith, omega arith)))
+    let few : Refuses 1 17 127 (sheetChecks sheet) = wider (sheetChecks sheet) (sheet-numbers sheet) (omega arith) (omega arith) (omega arith) in
+    reply-told 17 (omega arith) (sheetPegChecks sheet station) (sheetPeg sheet station) lent (few .0, λ h. (few .1 h, λ _. (omega arith, omega arith, omega arith)))
     (λ e. omega arith)
 
-pub write-told : (numbers lent : List ℕ) → Told (fill (numbersChecks numbers) (numbersSheet numbers) lent .reply)
+pub write-told : (numbers lent : List ℕ) → Told 16 (fill (numbersChecks numbers) (numbersSheet numbers) lent .reply)
 unfolding numbersChecks numbersSheet countCheck lineOf
 write-told numbers lent =
     let line = lineOf numbers in
-    reply-told (numbersChecks numbers) (numbersSheet numbers) lent
+    reply-told 16 (omega arith) (numbersChecks numbers) (numbersSheet numbers) lent
     ((omega arith, omega arith, omega arith), λ h. wider (lineChecks line) (line-numbers line) (omega arith) (omega arith) (omega (arith, few-counted numbers (held (countCheck numbers) h))))
     (λ e. omega (arith, sheet-length firstEdition line, few-counted numbers (passed-left (outcome (countCheck numbers)) _ e)))
 
-pub elements-told : (A R L : ℕ) (lent : List ℕ) → Told (fill (elementChecks A R L) (elementNumbers A R L) lent .reply)
+pub elements-told : (A R L : ℕ) (lent : List ℕ) → Told 16 (fill (elementChecks A R L) (elementNumbers A R L) lent .reply)
 unfolding elementChecks arcCheck elementNumbers elementValues
 elements-told A R L lent =
-    reply-told (elementChecks A R L) (elementNumbers A R L) lent
+    reply-told 16 (omega arith) (elementChecks A R L) (elementNumbers A R L) lent
     (wider (curveChecks A R L 0) (curve-numbers 0 A R L 0 (omega arith)) (omega arith) (omega arith) (omega arith), λ _. (omega arith, omega arith, omega arith))
     (λ e. omega arith)

@@ -1,6 +1,7 @@
 -- Answers by computation, and document 01's cases 1 and 9 as the calls for C and Rust give them. Assumes nothing.
 use mathlib.Core.Path.{_≡_, refl, sym, _∙_, ap}
-use mathlib.Core.List.{[], _∷_}
+use mathlib.Core.List.{List, [], _∷_}
+use Prim.Native.Nat.{ℕ}
 use lib.IntN.{pos}
 use lib.ListN.{length, replicate}
 use Rattle.refusals.specs.Outcomes.{Outcome}
@@ -20,7 +21,11 @@ use Rattle.station_report.proofs.Examples.{sheet4}
 use Rattle.station_report.proofs.Examples as refusedSheets
 use Rattle.pokyandi.specs.Answers.{answerNumber}
 use Rattle.pokyandi.specs.Calls.{sheetStations, sheetPegChecks, sheetPeg, checkReply, sheetNumbers, numbersSheet, elementNumbers, version}
-use Rattle.pokyandi.proofs.Replies.{stations-reply, peg-reply, found-numbers}
+use Rattle.pokyandi.proofs.Replies.{stations-reply, refused-peg, peg-reply, found-numbers}
+
+-- Case 10's sheet without its last byte.
+abbrev cut : List ℕ
+cut = 0x10 ∷ 0x11 ∷ 0xA0 ∷ 0x00 ∷ 0x00 ∷ 0x00 ∷ 0x00 ∷ 0xF4 ∷ 0x24 ∷ []
 
 pub record Examples : Type 0 where
   pub count : answerNumber (filled 257) ≡ 257
@@ -36,6 +41,7 @@ pub record Examples : Type 0 where
   pub case-9-peg : fill (sheetPegChecks sheet9 250000000) (sheetPeg sheet9 250000000) (replicate 6 (pos 7)) .reply ≡ filled 5
   pub case-9-peg-numbers : fill (sheetPegChecks sheet9 250000000) (sheetPeg sheet9 250000000) (replicate 6 (pos 7)) .buffer
       ≡ pos 0 ∷ pos 0 ∷ pos 250000000 ∷ pos 0 ∷ pos 0 ∷ pos 7 ∷ []
+  pub case-10-cut-peg : fill (sheetPegChecks cut 0) (sheetPeg cut 0) [] .reply ≡ unfilled 1 0
   pub case-9-end : fill (sheetChecks sheet9) (sheetStations sheet9) (7 ∷ []) .buffer ≡ 500000000 ∷ []
 
 -- Case 1's curve as the element call answers it.
@@ -78,5 +84,6 @@ examples =
       case-9-checked = checked9;
       case-9-peg = sym (peg9 .0);
       case-9-peg-numbers = sym (peg9 .1);
+      case-10-cut-peg = sym (refused-peg cut 0 [] (sheets.examples .case-10-cut) .0);
       case-9-end = sym (stations9 .1);
     }

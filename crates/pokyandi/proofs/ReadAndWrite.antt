@@ -77,7 +77,7 @@ counted-again sheet row numbers r answer memory again small = go (fill (readChec
         let counted : r ≡ count = answer ∙ ap answerNumber e in
         (λ j. numbersSheet (take (counted j) (memory j))) ∙ ap numbersSheet (told .front) ∙ again (told .checked)
     go (unfilled n p) e =
-        let least = subst Told e (read-told sheet row) in
+        let least = subst (Told 16) e (read-told sheet row) in
         let number : r ≡ n * 2 ^ 32 + p = answer ∙ ap answerNumber e in
         absurd (omega (arith, number, least .2))
 

@@ -3,8 +3,9 @@ use mathlib.Core.Path.{_≡_, refl, sym, ap}
 use Prim.Native.Nat.{ℕ}
 use native.Mathlib.Omega.{arith}
 use Rattle.refusals.specs.Outcomes.{Outcome, passed, refused}
-use Rattle.refusals.specs.Order.{Checks, _⨾_, outcome}
+use Rattle.refusals.specs.Order.{Checks, _⨾_, outcome, First}
 use Rattle.refusals.specs.Replying.{answered, declined, replyTo, reply}
+use Rattle.refusals.proofs.InOrder.{first-in-order}
 
 module _ {A : Type 0} where
   -- No answer is both.
@@ -35,6 +36,10 @@ module _ {A : Type 0} where
     pub unreplied : {n p : ℕ} → declined n p ≡ reply checks value → outcome checks ≡ refused n p
     unfolding reply
     unreplied e = refused-by (outcome checks) value e
+
+    -- It is the first in order.
+    pub unreplied-first : {n p : ℕ} → declined n p ≡ reply checks value → First checks n p
+    unreplied-first e = first-in-order checks (unreplied e)
 
     -- ---- the ways out
 
