@@ -1,2 +1,2 @@
--- What the contracts of `calculator`'s private functions cite.
+-- What the contracts of `calculator` cite beside those of `stationing`.
 pub mod Lengths

@@ -100,11 +100,7 @@ fn with_straights(line: Line, curves: CurveLengths) -> LineLengths
         let distance = 1000 * (line.distances[i] as u64);
         let ends = before + after;
         if distance < ends + 1000 {
-            return LineLengths {
-                verdict: Verdict::Refused(Refusal::ShortStraight(i as u16)),
-                straights: [0; 65],
-                arcs: [0; 64],
-            };
+            return no_lengths(Verdict::Refused(Refusal::ShortStraight(i as u16)));
         }
         lengths.straights[i] = distance - ends;
         before = after;

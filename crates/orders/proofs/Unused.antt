@@ -75,7 +75,7 @@ module _ (l m : Line) (alike : AlikeWhereUsed l m) where
 
   -- ---- the stations
 
-  pub same-former : (i : ℕ) → i ≤ l .count → formerST l i ≡ formerST m i
+  same-former : (i : ℕ) → i ≤ l .count → formerST l i ≡ formerST m i
   unfolding formerST
   same-former zero h = rw (alike .start)
   same-former (suc i) h = rw (same-former i (omega arith), same-straight i (omega arith), same-spiral i h, same-arc i h)

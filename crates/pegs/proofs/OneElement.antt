@@ -7,7 +7,7 @@ use mathlib.Core.List.{List, [], _∷_}
 use Prim.Native.Nat.{ℕ, zero, suc, _+_, _-_, _*_, _≤_, _<_}
 use native.Mathlib.Decide.{decLt}
 use native.Mathlib.Omega.{arith}
-use lib.IntN.{ℤ, pos, _+ℤ_}
+use lib.IntN.{ℤ, pos, _+ℤ_, +ℤ-idl}
 use lib.ListN.{length, getD}
 use lib.Signed.{leZ}
 use borrow.Author.Tests.{le-leb, leb-true}
@@ -19,9 +19,9 @@ use Rattle.refusals.specs.Replying.{answered}
 use Rattle.refusals.proofs.Replied.{passed-reply}
 use Rattle.line.specs.declared.Line.{Line}
 use Rattle.line.specs.Checks.{curveAt}
-use Rattle.stationing.specs.Stations.{spiralAt, formerST, endOf}
+use Rattle.stationing.specs.Stations.{spiralAt, straightAt, endOf}
 use Rattle.stationing.specs.Answer.{alignmentChecks}
-use Rattle.stationing.specs.LineElements.{Element, straightElement, elementsFrom, elementsOf, lineLength, Placed, placedFrom, placedElements}
+use Rattle.stationing.specs.LineElements.{Element, straightElement, elementsFrom, elementsOf, total, lineLength, Placed, placedFrom, placedElements}
 use Rattle.stationing.proofs.Accepted.{Accepted, accepted}
 use Rattle.stationing.proofs.ElementsAndStations.{length-to-end}
 use Rattle.pegs.specs.Pegs.{alongLine, holds, lastStraight, holding, elementUnder, pegBy, stationCheck, pegChecks, pegReply}
@@ -111,19 +111,23 @@ module _ (line : Line) (ok : Accepted line) where
   count-from i (suc k) = omega (arith, count-from (suc i) k)
 
   -- The last of them is the last straight.
-  last-from : (i k b : ℕ) (d : Placed) → i + k ≡ line .count → formerST line i ≡ pos (1000 * line .start + b)
+  last-from : (i k b : ℕ) (d : Placed) → i + k ≡ line .count → lineLength line ≡ pos b +ℤ total (elementsFrom line i k)
       → getD (placedFrom (pos b) (elementsFrom line i k)) (4 * k) d ≡ lastStraight line
-  unfolding elementsFrom placedFrom formerST spiralAt
+  unfolding elementsFrom placedFrom total spiralAt
   last-from i zero b d n f =
       let all : i ≡ line .count = omega arith in
-      ap (λ (k : ℕ). record { element = straightElement line k; begin = pos b }) all ∙ sym (last-begins line b (sym (ap (formerST line) all) ∙ f))
+      let s = ok .straight (line .count) (omega arith) in
+      let straight : straightAt line i ≡ pos (s .value) = ap (straightAt line) all ∙ s .same in
+      let far : lineLength line ≡ pos (b + (s .value + 0)) = f ∙ rw straight in
+      ap (λ (k : ℕ). record { element = straightElement line k; begin = pos b }) all ∙ sym (last-begins line b (s .value) (s .same) far)
   last-from i (suc k) b d n f =
       let s = ok .straight i (omega arith) in
       let D = ok .arc i (omega arith) in
       let L = 1000 * curveAt line i .spiral in
+      let rest = total-is (lengths-from line ok (suc i) k (omega arith) .lengths) in
       let four : 4 * suc k ≡ suc (suc (suc (suc (4 * k)))) = omega arith in
       rw (four, s .same, D .same)
-      (last-from (suc i) k (b + s .value + L + D .value + L) d (omega arith) (rw (f, s .same, D .same) (ap pos (omega arith))))
+      (last-from (suc i) k (b + s .value + L + D .value + L) d (omega arith) (f ∙ rw (s .same, D .same, rest) (ap pos (omega arith))))
 
   abbrev n : ℕ
   n = line .count
@@ -147,8 +151,8 @@ module _ (line : Line) (ok : Accepted line) where
 
     -- The last straight stands at the last index.
     last-at : elementAt line (4 * n) ≡ lastStraight line
-    unfolding placedElements elementsOf formerST
-    last-at = last-from 0 n 0 (lastStraight line) (omega arith) (ap pos (omega arith))
+    unfolding placedElements elementsOf lineLength
+    last-at = last-from 0 n 0 (lastStraight line) (omega arith) (sym (+ℤ-idl (total (elementsFrom line 0 n))))
 
     before-end : HeldByOne along (lastStraight line) (placedFrom (pos 0) (elementsFrom line 0 n)) (length (elementsFrom line 0 n)) (lastStraight line) → along < all .sum
         → OnOneElement line (pos along)

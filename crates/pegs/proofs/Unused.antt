@@ -2,7 +2,7 @@
 use mathlib.Core.Path.{_≡_, refl, sym, _∙_, ap}
 use mathlib.Core.Bool.{Bool, true, false, cond}
 use mathlib.Core.List.{List, [], _∷_}
-use Prim.Native.Nat.{ℕ, zero, suc, _+_, _-_, _*_, _<_}
+use Prim.Native.Nat.{ℕ, zero, suc, _+_, _-_, _<_}
 use native.Mathlib.Omega.{arith}
 use lib.IntN.{ℤ, pos, natAbs, _+ℤ_, _-ℤ_}
 use Rattle.refusals.specs.Order.{outcome}
@@ -12,9 +12,9 @@ use Rattle.line.specs.Checks.{curveAt}
 use Rattle.line.specs.Ranges.{AlikeWhereUsed}
 use Rattle.elements.specs.SpiralPoint.{offsetX, offsetY, Offsets}
 use Rattle.stationing.specs.declared.ElementKind.the-variants.{Straight}
-use Rattle.stationing.specs.Stations.{straightAt, formerST}
+use Rattle.stationing.specs.Stations.{straightAt}
 use Rattle.stationing.specs.LineElements.{Element, straightElement, spiralInElement, arcElement, spiralOutElement, elementsFrom, elementsOf, total, lineLength, Placed, placedFrom, placedElements}
-use Rattle.orders.proofs.Unused.{same-spiral, same-arc, same-straight, same-former, same-checks}
+use Rattle.orders.proofs.Unused.{same-spiral, same-arc, same-straight, same-checks}
 use Rattle.pegs.specs.Pegs.{alongLine, holds, lastStraight, holding, elementUnder, sided, curveOffsets, offsetsOn, PegValues, pegOn, pegBy, stationCheck, pegChecks, pegReply}
 use Rattle.pegs.proofs.Sides.{size-negative}
 
@@ -54,10 +54,9 @@ module _ (l m : Line) (alike : AlikeWhereUsed l m) where
   unfolding lastStraight
   same-last =
       let straight : straightAt l (l .count) ≡ straightAt m (m .count) = same-straight l m alike (l .count) (omega arith) ∙ ap (straightAt m) (alike .count) in
-      let former : formerST l (l .count) ≡ formerST m (m .count) = same-former l m alike (l .count) (omega arith) ∙ ap (formerST m) (alike .count) in
       λ j. record {
         element = record { kind = Straight; number = alike .count j; length = straight j };
-        begin = former j -ℤ pos (1000 * alike .start j);
+        begin = same-length j -ℤ straight j;
       }
 
   same-under : (along : ℤ) → elementUnder l along ≡ elementUnder m along

@@ -15,7 +15,7 @@ use Rattle.refusals.proofs.Replied.{passed-reply, refused-reply}
 use Rattle.line.specs.declared.Line.{Line}
 use Rattle.line.specs.Checks.{curveAt}
 use Rattle.stationing.specs.declared.ElementKind.the-variants.{Straight, SpiralIn, Arc, SpiralOut}
-use Rattle.stationing.specs.Stations.{spiralAt, arcAt, straightAt, formerST}
+use Rattle.stationing.specs.Stations.{spiralAt, arcAt, straightAt}
 use Rattle.stationing.specs.LineElements.{Element, straightElement, spiralInElement, arcElement, spiralOutElement, elementsFrom, elementsOf, total, lineLength, Placed, placedFrom, placedElements}
 use Rattle.stationing.proofs.Accepted.{Accepted}
 use Rattle.pegs.specs.Pegs.{holds, lastStraight, holding, elementUnder, PegValues, pegOn, pegBy, stationCheck}
@@ -52,18 +52,16 @@ module _ (along b l : ℕ) (e : Element) (is : e .length ≡ pos l) where
 -- is among them.
 pub record Reached (line : Line) (along i curves b : ℕ) : Type 0 where
   pub all : i + curves ≡ line .count
-  pub begin : formerST line i ≡ pos (1000 * line .start + b)
   pub under : elementUnder line (pos along) ≡ holding (pos along) (placedFrom (pos b) (elementsFrom line i curves)) (lastStraight line)
   pub left : lineLength line ≡ pos b +ℤ total (elementsFrom line i curves)
 
--- The last straight begins at the length b where the ST before it does.
-pub last-begins : (line : Line) (b : ℕ) → formerST line (line .count) ≡ pos (1000 * line .start + b)
+-- The last straight begins where its length, s, is left of the line.
+pub last-begins : (line : Line) (b s : ℕ) → straightAt line (line .count) ≡ pos s → lineLength line ≡ pos (b + (s + 0))
     → lastStraight line ≡ record { element = straightElement line (line .count); begin = pos b }
 unfolding lastStraight
-last-begins line b f =
-    let start = 1000 * line .start in
-    let at-b : formerST line (line .count) -ℤ pos start ≡ pos b =
-    ap (λ (z : ℤ). z -ℤ pos start) f ∙ minus-le (let h : start ≤ start + b = omega arith in h) ∙ ap pos (omega arith) in
+last-begins line b s straight far =
+    let at-b : lineLength line -ℤ straightAt line (line .count) ≡ pos b =
+    (λ j. far j -ℤ straight j) ∙ minus-le (let h : s ≤ b + (s + 0) = omega arith in h) ∙ ap pos (omega arith) in
     rw at-b
 
 -- A length lies on the line, and this is its peg.
@@ -74,11 +72,10 @@ pub record PegFound (line : Line) (along : ℕ) (peg : PegValues) : Type 0 where
 module _ (line : Line) (ok : Accepted line) where
   module _ (along : ℕ) where
     pub from-start : Reached line along 0 (line .count) 0
-    unfolding formerST elementUnder placedElements elementsOf lineLength
+    unfolding elementUnder placedElements elementsOf lineLength
     from-start =
         record {
           all = omega arith;
-          begin = ap pos (omega arith);
           under = refl;
           left = sym (+ℤ-idl (total (elementsFrom line 0 (line .count))));
         }
@@ -195,7 +192,7 @@ module _ (line : Line) (ok : Accepted line) where
             by-part (no p) (no q) = rw (le-ltb inside L (omega arith), le-ltb inside (L + d) (omega arith)) (on-spiral-out h (omega arith) (omega arith))
 
         pub next-distance : b + s + (2000 * curveAt line i .spiral + d) ≤ along → Reached line along (suc i) k (b + s + (2000 * curveAt line i .spiral + d))
-        unfolding formerST spiralAt
+        unfolding spiralAt
         next-distance h =
             let far : b + s + L + d + L ≡ b + s + (2000 * curveAt line i .spiral + d) = omega arith in
             let under =
@@ -206,7 +203,6 @@ module _ (line : Line) (ok : Accepted line) where
             ∙ ap (λ (n : ℕ). holding (pos along) (placedFrom (pos n) (elementsFrom line (suc i) k)) (lastStraight line)) far in
             record {
               all = omega (arith, r .all);
-              begin = rw (r .begin, ← straight, ← arc) (ap pos (omega arith));
               under = under;
               left = whole-line ∙ rw (total-is (rest .lengths)) (ap pos (omega arith));
             }
@@ -232,7 +228,7 @@ module _ (line : Line) (ok : Accepted line) where
           by-end : Dec (along < b + s)
               → holding (pos along) (placedFrom (pos b) (elementsFrom line (line .count) 0)) (lastStraight line) ≡ record { element = straightElement line (line .count); begin = pos b }
           by-end (yes k) = held along b s last (sym straight) [] (lastStraight line) h k
-          by-end (no k) = gone-by along b s last (sym straight) [] (lastStraight line) (omega arith) ∙ last-begins line b (r .begin)
+          by-end (no k) = gone-by along b s last (sym straight) [] (lastStraight line) (omega arith) ∙ last-begins line b s (sym straight) line-ends
 
       pub beyond : b + s < along → leZ (pos along) (lineLength line) ≡ false
       beyond h = rw (line-ends, lt-leb along (b + (s + 0)) (omega arith))

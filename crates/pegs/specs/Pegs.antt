@@ -1,7 +1,7 @@
 -- Document 02, N1: "the element under a station". Stations, lengths and offsets are in µm; lengths along the line are counted from its start.
 use mathlib.Core.Bool.{Bool, true, false, cond, _&&_}
 use mathlib.Core.List.{List, [], _∷_}
-use Prim.Native.Nat.{ℕ, _-_, _*_}
+use Prim.Native.Nat.{ℕ, _-_}
 use lib.IntN.{ℤ, pos, natAbs, negℤ, _-ℤ_}
 use lib.Signed.{leZ, ltZ}
 use Rattle.refusals.specs.Table.{numberOf, placeOf}
@@ -13,29 +13,26 @@ use Rattle.line.specs.Checks.{curveAt}
 use Rattle.elements.specs.SpiralPoint.{Offsets, offsetX, offsetY}
 use Rattle.stationing.specs.declared.ElementKind.{ElementKind}
 use Rattle.stationing.specs.declared.ElementKind.the-variants.{Straight, SpiralIn, Arc, SpiralOut}
-use Rattle.stationing.specs.Stations.{formerST}
 use Rattle.stationing.specs.Answer.{alignmentChecks}
-use Rattle.stationing.specs.LineElements.{straightElement, lineLength, Placed, finish, placedElements}
+use Rattle.stationing.specs.LineElements.{straightElement, lineLength, Placed, finish, placedElements, startStation}
 use Rattle.pegs.specs.declared.Peg.{Peg}
 use Rattle.pegs.specs.declared.PegAnswer.{PegAnswer}
 use Rattle.pegs.specs.declared.PegAnswer.the-variants.{Found, Refused}
 
 -- The length from the line's start to a station.
 unfoldable pub alongLine : Line → ℕ → ℤ
-alongLine line station = pos station -ℤ pos (1000 * line .start)
+alongLine line station = pos station -ℤ startStation line
 
 -- "A station shared by two elements belongs to the one that begins there", "and an empty spiral holds none": an element holds the lengths from
 -- its beginning, which is one of them, to its end, which is none.
 unfoldable pub holds : ℤ → Placed → Bool
 holds along p = leZ (p .begin) along && ltZ along (finish p)
 
--- The last line, of distance n.
+-- The last line, of distance n: it ends where the whole line does.
 unfoldable pub lastStraight : Line → Placed
 lastStraight line =
-    record {
-      element = straightElement line (line .count);
-      begin = formerST line (line .count) -ℤ pos (1000 * line .start);
-    }
+    let last = straightElement line (line .count) in
+    record { element = last; begin = lineLength line -ℤ last .length }
 
 -- The first of some elements that holds a length; where none does, `last`.
 unfoldable pub holding : ℤ → List Placed → Placed → Placed

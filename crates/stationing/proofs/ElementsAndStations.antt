@@ -1,40 +1,29 @@
--- A line's elements add up: each ends where the next begins, and the ends of its elements in order are the stations TS, SC, CS, ST of each
--- curve and the end. Assumes nothing.
-use mathlib.Core.Path.{_≡_, sym, _∙_, ap}
-use mathlib.Core.List.{List, [], _∷_, _++_, map, append-assoc}
-use Prim.Native.Nat.{ℕ, zero, suc, _+_, _*_}
+-- A line's elements add up: each spiral in lies between TS and SC of its curve, each arc between SC and CS, each spiral out between CS and ST, each
+-- straight between the ST before it and the next TS; so their ends in order are the row. Assumes nothing.
+use mathlib.Core.Path.{_≡_, refl, sym, _∙_, ap}
+use mathlib.Core.List.{List, [], _∷_, _++_, map, append-assoc, map-append}
+use Prim.Native.Nat.{ℕ, zero, suc, _+_}
 use native.Mathlib.Omega.{arith}
-use lib.IntN.{ℤ, pos, _+ℤ_, +ℤ-assoc, +ℤ-idl, +ℤ-idr}
+use lib.IntN.{ℤ, pos, _+ℤ_, +ℤ-assoc, +ℤ-idr}
 use Rattle.line.specs.declared.Line.{Line}
 use Rattle.stationing.specs.Stations.{spiralAt, arcAt, straightAt, formerST, pointsAt, endOf, curveStations, stationsOf}
-use Rattle.stationing.specs.LineElements.{Element, elementsFrom, elementsOf, total, lineLength, Placed, finish, placedFrom, placedElements}
-
--- The station of the line's start, in µm.
-abbrev pub startStation : Line → ℤ
-startStation line = pos (1000 * line .start)
-
--- The stations where an element begins and ends.
-abbrev pub beginStation : Line → Placed → ℤ
-beginStation line p = startStation line +ℤ p .begin
-
-abbrev pub endStation : Line → Placed → ℤ
-endStation line p = startStation line +ℤ finish p
+use Rattle.stationing.specs.LineElements.{straightElement, spiralInElement, arcElement, spiralOutElement, elementsFrom, elementsOf, total, lineLength, placedFrom, placedElements, startStation, Span, spanOf, straightSpan, curveSpans, spansOf}
 
 -- A length more, behind one that brings a to c.
 onward : (a b x : ℤ) {c : ℤ} → a +ℤ b ≡ c → a +ℤ (b +ℤ x) ≡ c +ℤ x
 onward a b x h = sym (+ℤ-assoc a b x) ∙ ap (λ (z : ℤ). z +ℤ x) h
 
 module _ (line : Line) where
-  -- Behind the stations of the first i curves, those of the elements from distance i on are what is left.
-  ends-from : (i k : ℕ) (b : ℤ) → i + k ≡ line .count → startStation line +ℤ b ≡ formerST line i
-      → curveStations line i ++ map (endStation line) (placedFrom b (elementsFrom line i k)) ≡ stationsOf line
-  unfolding elementsFrom placedFrom stationsOf endOf curveStations pointsAt formerST
-  ends-from i zero b n f =
+  -- Behind those of the first i curves, the elements from distance i on are what is left.
+  spans-from : (i k : ℕ) (b : ℤ) → i + k ≡ line .count → startStation line +ℤ b ≡ formerST line i
+      → curveSpans line i ++ map (spanOf line) (placedFrom b (elementsFrom line i k)) ≡ spansOf line
+  unfolding elementsFrom placedFrom spansOf endOf curveSpans pointsAt formerST
+  spans-from i zero b n f =
       let all : i ≡ line .count = omega arith in
       let end = onward (startStation line) b (straightAt line i) f in
-      ap (λ (z : ℤ). curveStations line i ++ (z ∷ [])) end
-      ∙ (λ j. curveStations line (all j) ++ ((formerST line (all j) +ℤ straightAt line (all j)) ∷ []))
-  ends-from i (suc k) b n f =
+      (λ j. curveSpans line i ++ (record { element = straightElement line i; begin = f j; end = end j } ∷ []))
+      ∙ (λ j. curveSpans line (all j) ++ (straightSpan line (all j) (formerST line (all j) +ℤ straightAt line (all j)) ∷ []))
+  spans-from i (suc k) b n f =
       let start = startStation line in
       let TS = b +ℤ straightAt line i in
       let SC = TS +ℤ spiralAt line i in
@@ -43,15 +32,35 @@ module _ (line : Line) where
       let at-SC = onward start TS (spiralAt line i) at-TS in
       let at-CS = onward start SC (arcAt line i) at-SC in
       let at-ST = onward start CS (spiralAt line i) at-CS in
-      let rest = map (endStation line) (placedFrom (CS +ℤ spiralAt line i) (elementsFrom line (suc i) k)) in
-      (λ j. curveStations line i ++ (at-TS j ∷ at-SC j ∷ at-CS j ∷ at-ST j ∷ rest))
-      ∙ sym (append-assoc (curveStations line i) _ rest)
-      ∙ ends-from (suc i) k _ (omega arith) at-ST
+      let rest = map (spanOf line) (placedFrom (CS +ℤ spiralAt line i) (elementsFrom line (suc i) k)) in
+      (λ j. curveSpans line i
+      ++ (record { element = straightElement line i; begin = f j; end = at-TS j }
+      ∷ record { element = spiralInElement line i; begin = at-TS j; end = at-SC j }
+      ∷ record { element = arcElement line i; begin = at-SC j; end = at-CS j }
+      ∷ record { element = spiralOutElement line i; begin = at-CS j; end = at-ST j }
+      ∷ rest))
+      ∙ sym (append-assoc (curveSpans line i) _ rest)
+      ∙ spans-from (suc i) k _ (omega arith) at-ST
 
-  -- The ends of the elements are the numbers of the row.
-  pub ends-are-stations : map (endStation line) (placedElements line) ≡ stationsOf line
-  unfolding placedElements elementsOf curveStations formerST
-  ends-are-stations = ends-from 0 (line .count) (pos 0) (omega arith) (+ℤ-idr (startStation line))
+  -- Each element lies between the stations of its name.
+  pub between-stations : map (spanOf line) (placedElements line) ≡ spansOf line
+  unfolding placedElements elementsOf curveSpans formerST
+  between-stations = spans-from 0 (line .count) (pos 0) (omega arith) (+ℤ-idr (startStation line))
+
+  -- So their ends are the numbers of the row.
+  curve-ends : (i : ℕ) → map (λ (s : Span). s .end) (curveSpans line i) ≡ curveStations line i
+  unfolding curveSpans curveStations
+  curve-ends zero = refl
+  curve-ends (suc i) =
+      let at = pointsAt line i in
+      map-append (λ (s : Span). s .end) (curveSpans line i) _ ∙ (λ j. curve-ends i j ++ (at .TS ∷ at .SC ∷ at .CS ∷ at .ST ∷ []))
+
+  pub ends-are-stations : map (λ (s : Span). s .end) (map (spanOf line) (placedElements line)) ≡ stationsOf line
+  unfolding spansOf stationsOf
+  ends-are-stations =
+      ap (map (λ (s : Span). s .end)) between-stations
+      ∙ map-append (λ (s : Span). s .end) (curveSpans line (line .count)) _
+      ∙ (λ j. curve-ends (line .count) j ++ (endOf line ∷ []))
 
   -- What the elements from distance i on add up to brings the ST before it to the end.
   total-from : (i k : ℕ) → i + k ≡ line .count → formerST line i +ℤ total (elementsFrom line i k) ≡ endOf line
@@ -71,23 +80,3 @@ module _ (line : Line) where
   pub length-to-end : startStation line +ℤ lineLength line ≡ endOf line
   unfolding lineLength elementsOf formerST
   length-to-end = total-from 0 (line .count) (omega arith)
-
--- Where elements one after the other begin, and the end, is where they start and where each ends.
-begins-and-ends : (s b : ℤ) (es : List Element)
-    → map (λ (p : Placed). s +ℤ p .begin) (placedFrom b es) ++ ((s +ℤ (b +ℤ total es)) ∷ [])
-    ≡ (s +ℤ b) ∷ map (λ (p : Placed). s +ℤ finish p) (placedFrom b es)
-unfolding placedFrom total
-begins-and-ends s b [] = ap (λ (z : ℤ). (s +ℤ z) ∷ []) (+ℤ-idr b)
-begins-and-ends s b (e ∷ es) =
-    ap (λ (z : ℤ). (s +ℤ b) ∷ map (λ (p : Placed). s +ℤ p .begin) (placedFrom (b +ℤ e .length) es) ++ ((s +ℤ z) ∷ [])) (sym (+ℤ-assoc b (e .length) (total es)))
-    ∙ ap (λ (zs : List ℤ). (s +ℤ b) ∷ zs) (begins-and-ends s (b +ℤ e .length) es)
-
--- So the elements begin at the start, TS, SC, CS, ST of each curve in order, and what follows is the end.
-pub begins-are-stations : (line : Line) → map (beginStation line) (placedElements line) ++ (endOf line ∷ []) ≡ startStation line ∷ stationsOf line
-unfolding placedElements lineLength
-begins-are-stations line =
-    let start = startStation line in
-    let end : endOf line ≡ start +ℤ (pos 0 +ℤ total (elementsOf line)) = sym (length-to-end line) ∙ ap (λ (z : ℤ). start +ℤ z) (sym (+ℤ-idl (total (elementsOf line)))) in
-    ap (λ (z : ℤ). map (beginStation line) (placedElements line) ++ (z ∷ [])) end
-    ∙ begins-and-ends start (pos 0) (elementsOf line)
-    ∙ (λ j. +ℤ-idr start j ∷ ends-are-stations line j)

@@ -7,7 +7,7 @@ use lib.IntN.{pos}
 use borrow.Author.Needs.{needs}
 use Rattle.numbers.proofs.Ranges.{at-most}
 use Rattle.refusals.specs.declared.Verdict.the-variants.{Pass}
-use Rattle.refusals.specs.Outcomes.{passed, firstOf}
+use Rattle.refusals.specs.Outcomes.{passed, firstOf, outcomeOf}
 use Rattle.refusals.specs.Order.{inTurn, outcome}
 use Rattle.refusals.proofs.InTurn.{one-more, first-refused}
 use Rattle.stationing.specs.Stations.{tangentBefore}
@@ -78,14 +78,18 @@ add-if1 c =
 cast-t23 : tie.Need-cast-t23 Inv-loop μ-loop
 cast-t23 c = search needs
 
+no-lengths-requires : tie.Need-no-lengths-requires Inv-loop μ-loop
+no-lengths-requires c κs = search needs
+
 returns : tie.Need-returns Inv-loop μ-loop
 returns c =
-    let start = c .before .before .before .before .before .before in
-    let loop = c .before .before .before .before .loop in
+    let start = c .before .before .before .before .before .before .before in
+    let loop = c .before .before .before .before .before .loop in
     let line = start .args .t1 in
-    let here : loop .i ≤ line .count = omega (arith, c .before .before .before .loop-test .taken) in
-    let short = short-straight line (loop .i) (loop .inv .5 here) (after-distance line _ (start .pre .1 .0) (loop .i) here) (c .if1 .taken) in
-    refused-lengths line (inTurn (straightCheck line) (suc (line .count))) _ refl refl
+    let here : loop .i ≤ line .count = omega (arith, c .before .before .before .before .loop-test .taken) in
+    let short = short-straight line (loop .i) (loop .inv .5 here) (after-distance line _ (start .pre .1 .0) (loop .i) here) (c .before .if1 .taken) in
+    let none = c .no-lengths .ensures in
+    refused-lengths line (inTurn (straightCheck line) (suc (line .count))) (c .no-lengths .result) (ap outcomeOf (none .0)) (none .1)
     (first-refused (straightCheck line) (loop .i) (suc (line .count)) (omega arith) (loop .inv .1) short)
 
 sub-lengths : tie.Need-sub-lengths Inv-loop μ-loop
@@ -147,6 +151,7 @@ with-straights-spec =
     add-ends
     add-if1
     cast-t23
+    no-lengths-requires
     returns
     sub-lengths
     mul-lengths
