@@ -63,8 +63,8 @@ module _ (A R L : ℕ) (ok : CurveInRange A R L) (n : ℕ) (seven : 7 ≤ n) whe
       let m = half-angle-most A (ok .A-most) in
       omega (
         arith,
-        at-least (sym (sine-half .same)) (sine-between q m),
-        mul-le-mul-left q (square-most q m),
+        at-least (sym (sine-half .same)) (sine-between q (omega (arith, m))),
+        mul-le-mul-left q (square-most q (omega (arith, m))),
         half-least A (ok .A-least),
       )
 

@@ -99,7 +99,7 @@ module _ (R L : ℕ) (R-most : R ≤ 5000000) (L-most : L ≤ 500000) (L-to-R : 
 
   one-less-cosine : Between (pos scale -ℤ cosineOf (spiralAngle R L)) 0 scale
   one-less-cosine =
-      let c = cosine-above (spiralAngle R L) (omega (arith, t-most)) in
+      let c = cosine-above greatestAngle (spiralAngle R L) (omega arith) (omega (arith, t-most)) in
       difference-between (natural scale {least = 0} {most = scale} (omega arith) (omega arith)) c (c .high)
 
   x-t : Between (unitX (spiralAngle R L)) 975000000 scale
@@ -139,10 +139,10 @@ module _ (R L : ℕ) (R-most : R ≤ 5000000) (L-most : L ≤ 500000) (L-to-R : 
 module _ (A : ℕ) (A-most : A ≤ 432000) where
   sine-half : Between (sineOf (halfAngle A)) 0 greatestAngle
   sine-half =
-      widen (sine-between (halfAngle A) (half-angle-most A A-most)) (omega arith) (half-angle-most A A-most)
+      widen (sine-between (halfAngle A) (omega (arith, half-angle-most A A-most))) (omega arith) (half-angle-most A A-most)
 
   cosine-half : Between (cosineOf (halfAngle A)) 451688645 scale
-  cosine-half = cosine-above (halfAngle A) (half-angle-most A A-most)
+  cosine-half = cosine-above greatestAngle (halfAngle A) (omega arith) (half-angle-most A A-most)
 
   pub tan-between : Between (tanOf A) 0 2318405749
   unfolding tanOf

@@ -1,4 +1,4 @@
--- Document 01's cases 1 (elements), 6, 7, 8 and 11, from the definitions. Assumes nothing.
+-- Document 01's cases 1 (elements), 6, 7, 8 and 11, points of spirals and turns, from the definitions. Assumes nothing.
 use mathlib.Core.Path.{_≡_, refl}
 use Prim.Native.Nat.{ℕ}
 use native.Mathlib.Nat.{mul-zero, zero-div}
@@ -8,6 +8,7 @@ use Rattle.elements.specs.WorkingRule.{rounded, fullAngle, halfAngle, sp
 use Rattle.refusals.specs.Replying.{answered, declined, reply}
 use Rattle.elements.specs.Answer.{valuesBy, arcCheck, elementChecks, elementReply}
 use Rattle.elements.specs.SpiralPoint.{partTo, angleTo, offsetX, offsetY, offsetsBy, insideCheck, pointChecks, pointReply}
+use Rattle.elements.specs.TurnAngle.{turnAngle}
 
 -- R 350,000 and L 40,000 in each; case 8 is without spirals.
 pub record Examples : Type 0 where
@@ -45,9 +46,18 @@ pub record Examples : Type 0 where
   pub beyond-no-spiral : pointReply 350000 0 1 ≡ declined 17 0
   pub point-radius-refused : pointReply 19999 500001 500001001 ≡ declined 10 0
   pub point-spiral-refused : pointReply 20000 20001 20001001 ≡ declined 11 0
+  -- ---- turns
+  pub sine-of-1 : sineOf (turnAngle 1) ≡ pos 4848
+  pub cosine-of-1 : cosineOf (turnAngle 1) ≡ pos 1000000000
+  pub sine-of-60 : sineOf (turnAngle 216000) ≡ pos 866025404
+  pub cosine-of-60 : cosineOf (turnAngle 216000) ≡ pos 500000000
+  pub sine-of-greatest : sineOf (turnAngle 216001) ≡ pos 866027828
+  pub cosine-of-greatest : cosineOf (turnAngle 216001) ≡ pos 499995800
+  pub sine-beyond : sineOf (turnAngle 216002) ≡ pos 866027828
+  pub cosine-beyond : cosineOf (turnAngle 216002) ≡ pos 499995800
 
 pub examples : Examples
-unfolding curveChecks rounded fullAngle halfAngle spiralAngle term alternating sineOf cosineOf t2 t3 t4 unitX unitY spiralX spiralY centreOf shiftOf arcOf tanOf tangentOf valuesBy arcCheck elementChecks elementReply reply partTo angleTo offsetX offsetY offsetsBy insideCheck pointChecks pointReply
+unfolding curveChecks rounded fullAngle halfAngle spiralAngle term alternating sineOf cosineOf t2 t3 t4 unitX unitY spiralX spiralY centreOf shiftOf arcOf tanOf tangentOf valuesBy arcCheck elementChecks elementReply reply partTo angleTo offsetX offsetY offsetsBy insideCheck pointChecks pointReply turnAngle
 examples =
     record {
       case-1 = refl;
@@ -77,6 +87,14 @@ examples =
       beyond-no-spiral = refl;
       point-radius-refused = refl;
       point-spiral-refused = refl;
+      sine-of-1 = refl;
+      cosine-of-1 = refl;
+      sine-of-60 = refl;
+      cosine-of-60 = refl;
+      sine-of-greatest = refl;
+      cosine-of-greatest = refl;
+      sine-beyond = refl;
+      cosine-beyond = refl;
     }
 
 -- Case 11: "L 0: X, Y, k, p are all 0.", at every radius.

@@ -3,6 +3,7 @@ pub mod Rounding
 pub mod Alternating
 pub mod SineAndCosine
 pub mod UnitSpiral
+pub mod TurnAngles
 pub mod Bounds
 pub mod SpiralPoints
 pub mod Arc

@@ -1,4 +1,5 @@
--- The sine and the cosine: their terms fall, so neither is below zero, and the cosine of a half angle stays above 0.45. Assumes nothing.
+-- The sine and the cosine: their terms fall, so neither is below zero, and the cosine of an angle of 60° and a second or less stays above
+-- 0.45. Assumes nothing.
 use mathlib.Core.Path.{_≡_, sym, _∙_, ap}
 use Prim.Native.Nat.{ℕ, suc, _+_, _-_, _*_, _/_, _≤_}
 use native.Mathlib.Nat.{mul-comm, mul-le-mul, mul-le-mul-left, div-le-of-le-mul}
@@ -12,6 +13,10 @@ use Rattle.elements.proofs.Alternating.{falling-least}
 -- The greatest angle: half of 120°, and more than a spiral's half radian.
 abbrev pub greatestAngle : ℕ
 greatestAngle = 1047197551
+
+-- The full angle of the greatest turn: 60° and a second.
+abbrev pub greatestTurnAngle : ℕ
+greatestTurnAngle = 1047202399
 
 -- A term is no greater than the former.
 pub next-falls : (former z divisor : ℕ) → z ≤ scale * divisor → former * z / (scale * divisor) ≤ former
@@ -60,29 +65,28 @@ series-between divisor first z n falls =
     falling-least (term divisor first z) (λ j. next-falls (term divisor first z j) z (divisor (suc j)) (falls j)) n
 
 -- The square of an angle.
-pub square-most : (q : ℕ) → q ≤ greatestAngle → q * q / scale ≤ 1096622710
+pub square-most : (q : ℕ) → q ≤ greatestTurnAngle → q * q / scale ≤ 1096632864
 square-most q h = omega (arith, mul-le-mul h h)
 
-pub sine-between : (q : ℕ) → q ≤ greatestAngle → Between (sineOf q) (q - q * (q * q / scale) / (scale * 6)) q
+-- The divisors are 2 or more.
+pub sine-divisor-least : (j : ℕ) → 2 ≤ sineDivisor (suc j)
+sine-divisor-least j = mul-le-mul {n₁ = 2} {m₁ = 1} {n₂ = 2 * suc j} {m₂ = 2 * suc j + 1} (omega arith) (omega arith)
+
+pub cosine-divisor-least : (j : ℕ) → 2 ≤ cosineDivisor (suc j)
+cosine-divisor-least j = mul-le-mul {n₁ = 1} {m₁ = 2} {n₂ = 2 * suc j - 1} {m₂ = 2 * suc j} (omega arith) (omega arith)
+
+pub sine-between : (q : ℕ) → q ≤ greatestTurnAngle → Between (sineOf q) (q - q * (q * q / scale) / (scale * 6)) q
 unfolding sineOf
-sine-between q h = series-between sineDivisor q (q * q / scale) 5 falls
-  where
-    falls : (j : ℕ) → q * q / scale ≤ scale * (2 * suc j * (2 * suc j + 1))
-    falls j =
-        omega
-        (arith, square-most q h, mul-le-mul {n₁ = 2} {m₁ = 1} {n₂ = 2 * suc j} {m₂ = 2 * suc j + 1} (omega arith) (omega arith))
+sine-between q h =
+    series-between sineDivisor q (q * q / scale) 5 (λ j. omega (arith, square-most q h, sine-divisor-least j))
 
-pub cosine-between : (q : ℕ) → q ≤ greatestAngle → Between (cosineOf q) (scale - scale * (q * q / scale) / (scale * 2)) scale
+pub cosine-between : (q : ℕ) → q ≤ greatestTurnAngle → Between (cosineOf q) (scale - scale * (q * q / scale) / (scale * 2)) scale
 unfolding cosineOf
-cosine-between q h = series-between cosineDivisor scale (q * q / scale) 5 falls
-  where
-    falls : (j : ℕ) → q * q / scale ≤ scale * ((2 * suc j - 1) * (2 * suc j))
-    falls j =
-        omega
-        (arith, square-most q h, mul-le-mul {n₁ = 1} {m₁ = 2} {n₂ = 2 * suc j - 1} {m₂ = 2 * suc j} (omega arith) (omega arith))
+cosine-between q h =
+    series-between cosineDivisor scale (q * q / scale) 5 (λ j. omega (arith, square-most q h, cosine-divisor-least j))
 
--- The cosine of a half angle stays above 0.45.
-pub cosine-above : (q : ℕ) → q ≤ greatestAngle → Between (cosineOf q) 451688645 scale
-cosine-above q h =
-    let b = cosine-between q h in
-    record { value = b .value; same = b .same; low = omega (arith, b .low, square-most q h); high = b .high }
+-- The cosine of an angle up to `most`: 0.4516.. for half angles and turns.
+pub cosine-above : (most q : ℕ) → most ≤ greatestTurnAngle → q ≤ most → Between (cosineOf q) (scale - most * most / scale / 2) scale
+cosine-above most q m h =
+    let b = cosine-between q (omega arith) in
+    record { value = b .value; same = b .same; low = omega (arith, b .low, mul-le-mul h h); high = b .high }

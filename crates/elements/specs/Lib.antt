@@ -3,3 +3,4 @@ pub mod WorkingRule
 pub mod Answer
 pub mod SpiralElements
 pub mod SpiralPoint
+pub mod TurnAngle

@@ -1,7 +1,8 @@
-// The elements of one curve and the points of its spirals by document 01's working rule.
+// The elements of one curve, the points of its spirals, and the sine and cosine of a turn, by document 01's working rule.
 mod point;
 mod rule;
 mod series;
+mod turn;
 
 use refusals::Refusal;
 
@@ -10,6 +11,7 @@ const SCALE: u64 = 1000000000;
 
 pub use point::spiral_point;
 pub use rule::curve_elements;
+pub use turn::turn_ratios;
 
 // The elements of a curve, in µm.
 pub struct Elements {
@@ -45,4 +47,10 @@ pub struct SpiralPoint {
 pub enum PointAnswer {
     Found(SpiralPoint),
     Refused(Refusal),
+}
+
+// The sine and the cosine of a turn, at scale 10⁹.
+pub struct TurnRatios {
+    pub sine: u32,
+    pub cosine: u32,
 }

@@ -54,7 +54,7 @@ fn angle_product(a: u64, b: u64) -> u64
     a * b / SCALE
 }
 
-fn full_angle(deflection: u64) -> u64
+pub(crate) fn full_angle(deflection: u64) -> u64
     requires { ⌜ deflection ≤ 432000 ⌝ }
     ensures { λ r. ⌜ (r ≡ fullAngle deflection) × (r ≤ 2094395102) ⌝ }
 {

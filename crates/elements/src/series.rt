@@ -7,15 +7,15 @@ use crate::SCALE;
 
 // The square of an angle.
 fn square(q: u64) -> u64
-    requires { ⌜ q ≤ 1047197551 ⌝ }
-    ensures { λ r. ⌜ (r ≡ q * q / scale) × (r ≤ 1096622710) ⌝ }
+    requires { ⌜ q ≤ 1047202399 ⌝ }
+    ensures { λ r. ⌜ (r ≡ q * q / scale) × (r ≤ 1096632864) ⌝ }
 {
     q * q / SCALE
 }
 
 // The term of a series after the former one, which is no greater.
 fn next_term(former: u64, z: u64, divisor: u64) -> u64
-    requires { ⌜ (former ≤ 1047197551) × (z ≤ 1096622710) × (2 ≤ divisor) × (divisor ≤ 156) ⌝ }
+    requires { ⌜ (former ≤ 1047202399) × (z ≤ 1096632864) × (2 ≤ divisor) × (divisor ≤ 156) ⌝ }
     ensures { λ r. ⌜ (r ≡ former * z / (scale * divisor)) × (r ≤ former) ⌝ }
 {
     former * z / (SCALE * divisor)
@@ -23,7 +23,7 @@ fn next_term(former: u64, z: u64, divisor: u64) -> u64
 
 // Seven terms, signs alternating, first plus; the divisors are those of the second to the seventh.
 fn series(first: u64, z: u64, d1: u64, d2: u64, d3: u64, d4: u64, d5: u64, d6: u64) -> u64
-    requires { ⌜ (first ≤ 1047197551) × (z ≤ 1096622710) ⌝ }
+    requires { ⌜ (first ≤ 1047202399) × (z ≤ 1096632864) ⌝ }
     requires { ⌜ (2 ≤ d1) × (d1 ≤ 156) × (2 ≤ d2) × (d2 ≤ 156) × (2 ≤ d3) × (d3 ≤ 156) ⌝ }
     requires { ⌜ (2 ≤ d4) × (d4 ≤ 156) × (2 ≤ d5) × (d5 ≤ 156) × (2 ≤ d6) × (d6 ≤ 156) ⌝ }
     ensures { λ r. ⌜ ((divisor : ℕ → ℕ) → d1 ≡ divisor 1 → d2 ≡ divisor 2 → d3 ≡ divisor 3 → d4 ≡ divisor 4 → d5 ≡ divisor 5 → d6 ≡ divisor 6 → pos r ≡ alternating (term divisor first z) 6) ⌝ }
@@ -37,18 +37,18 @@ fn series(first: u64, z: u64, d1: u64, d2: u64, d3: u64, d4: u64, d5: u64, d6: u
     first + t2 + t4 + t6 - (t1 + t3 + t5)
 }
 
-// The sine of an angle of 60° or less.
+// The sine of an angle of 60° and a second or less.
 pub(crate) fn sine(q: u64) -> u64
-    requires { ⌜ q ≤ 1047197551 ⌝ }
+    requires { ⌜ q ≤ 1047202399 ⌝ }
     ensures { λ r. ⌜ (pos r ≡ sineOf q) × (r ≤ q) ⌝ }
 {
     series(q, square(q), 6, 20, 42, 72, 110, 156)
 }
 
-// The cosine of an angle of 60° or less, which is above 0.45.
+// The cosine of an angle of 60° and a second or less, which is above 0.45.
 pub(crate) fn cosine(q: u64) -> u64
-    requires { ⌜ q ≤ 1047197551 ⌝ }
-    ensures { λ r. ⌜ (pos r ≡ cosineOf q) × (451688645 ≤ r) × (r ≤ 1000000000) ⌝ }
+    requires { ⌜ q ≤ 1047202399 ⌝ }
+    ensures { λ r. ⌜ (pos r ≡ cosineOf q) × (451683568 ≤ r) × (r ≤ 1000000000) ⌝ }
 {
     series(SCALE, square(q), 2, 12, 30, 56, 90, 132)
 }
