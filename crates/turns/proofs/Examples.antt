@@ -1,0 +1,49 @@
+-- What is reached on both sides of a second, and the turns that follow: 0, 1 second, 45° and 60°. Assumes nothing.
+use mathlib.Core.Path.{_≡_, refl, sym}
+use mathlib.Core.Bool.{true, false}
+use native.Mathlib.Omega.{arith}
+use Rattle.elements.specs.WorkingRule.{fullAngle, term, alternating, sineOf, cosineOf}
+use Rattle.turns.specs.Turn.{reached, turnOf}
+use Rattle.turns.proofs.OneTurn.{LastReached, last-is-turn, no-cross}
+
+pub record Examples : Type 0 where
+  pub one-second : LastReached 4848 1000000000 1
+  pub below-one-second : LastReached 4847 1000000000 0
+  pub equal-products : LastReached 1 1 162000
+  pub sixty-degrees : LastReached 866025404 500000000 216000
+  pub wide : reached 866027828 499995800 216001 ≡ true
+  pub not-wide : reached 866027827 499995800 216001 ≡ false
+  pub square : reached 1 0 216001 ≡ true
+  pub no-legs : reached 0 0 216001 ≡ true
+
+pub examples : Examples
+unfolding fullAngle term alternating sineOf cosineOf reached
+examples =
+    record {
+      one-second = record { here = refl; not-next = refl };
+      below-one-second = record { here = refl; not-next = refl };
+      equal-products = record { here = refl; not-next = refl };
+      sixty-degrees = record { here = refl; not-next = refl };
+      wide = refl;
+      not-wide = refl;
+      square = refl;
+      no-legs = refl;
+    }
+
+-- The deflections of those products.
+pub record Turns : Type 0 where
+  pub none : turnOf 0 1 ≡ 0
+  pub below-one-second : turnOf 4847 1000000000 ≡ 0
+  pub one-second : turnOf 4848 1000000000 ≡ 1
+  pub equal-products : turnOf 1 1 ≡ 162000
+  pub sixty-degrees : turnOf 866025404 500000000 ≡ 216000
+
+pub turns : Turns
+turns =
+    record {
+      none = no-cross 1 (omega arith);
+      below-one-second = sym (last-is-turn 4847 1000000000 0 (omega arith) (examples .below-one-second));
+      one-second = sym (last-is-turn 4848 1000000000 1 (omega arith) (examples .one-second));
+      equal-products = sym (last-is-turn 1 1 162000 (omega arith) (examples .equal-products));
+      sixty-degrees = sym (last-is-turn 866025404 500000000 216000 (omega arith) (examples .sixty-degrees));
+    }
