@@ -48,7 +48,7 @@ pub fn check_head(count: usize, speed: u32, crossfall: u32, start: u32) -> Verdi
 }
 
 // Refusal 8: the distance of an index, in mm.
-fn check_distance(distance: u32, index: u16) -> Verdict
+pub fn check_distance(distance: u32, index: u16) -> Verdict
     ensures { λ r. ⌜ outcomeOf r ≡ outcome (distanceCheck distance index) ⌝ }
 {
     must(between(1, 20000000, distance), Refusal::Distance(index))

@@ -4,6 +4,7 @@ mod checks;
 ghost use mathlib.Core.Path.{_≡_};
 ghost use Rattle.line.specs.Entries.{sideBit, blankLine};
 pub use checks::check_curve;
+pub use checks::check_distance;
 pub use checks::check_head;
 pub use checks::check_line;
 

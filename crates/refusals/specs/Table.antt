@@ -1,7 +1,7 @@
--- Document 01's "Refusal table": the number and the place of each refusal.
+-- Document 01's "Refusal table", which document 02's numbers join: the number and the place of each refusal.
 use Prim.Native.Nat.{ℕ}
 use Rattle.refusals.specs.declared.Refusal.{Refusal}
-use Rattle.refusals.specs.declared.Refusal.the-variants.{Truncated, Edition, CurveCount, Speed, Crossfall, Start, Trailing, Distance, Deflection, Radius, Spiral, LeastRadius, LeastSpiral, ShortArc, ShortStraight, SmallBuffer, Station}
+use Rattle.refusals.specs.declared.Refusal.the-variants.{Truncated, Edition, CurveCount, Speed, Crossfall, Start, Trailing, Distance, Deflection, Radius, Spiral, LeastRadius, LeastSpiral, ShortArc, ShortStraight, SmallBuffer, Station, Coordinate, NoTurn, WideTurn}
 
 -- "Refusal table", the column No.
 abbrev pub numberOf : Refusal → ℕ
@@ -22,8 +22,11 @@ numberOf (ShortArc curve) = 14
 numberOf (ShortStraight index) = 15
 numberOf SmallBuffer = 16
 numberOf Station = 17
+numberOf Coordinate = 18
+numberOf (NoTurn curve) = 19
+numberOf (WideTurn curve) = 20
 
--- "the index of the distance (0 to n) for 8 and 15, the curve (1 to n) for 9 to 14, else 0"
+-- "the index of the distance (0 to n) for 8 and 15, the curve (1 to n) for 9 to 14, else 0"; "the place for 19 and 20 is the curve"
 abbrev pub placeOf : Refusal → ℕ
 placeOf Truncated = 0
 placeOf Edition = 0
@@ -42,3 +45,6 @@ placeOf (ShortArc curve) = curve
 placeOf (ShortStraight index) = index
 placeOf SmallBuffer = 0
 placeOf Station = 0
+placeOf Coordinate = 0
+placeOf (NoTurn curve) = curve
+placeOf (WideTurn curve) = curve

@@ -39,6 +39,12 @@ pub enum Refusal {
     SmallBuffer,
     // 17: the station is outside the line.
     Station,
+    // 18: the coordinate is out of range.
+    Coordinate,
+    // 19: the legs at the PI do not turn by a second.
+    NoTurn(u16),
+    // 20: the legs at the PI turn by more than 60°.
+    WideTurn(u16),
 }
 
 // What a call that fills a caller's buffer answers: how many entries it wrote at the buffer's front, or why it wrote none.
@@ -76,6 +82,9 @@ impl Refusal {
             Refusal::ShortStraight(_) => 15,
             Refusal::SmallBuffer => 16,
             Refusal::Station => 17,
+            Refusal::Coordinate => 18,
+            Refusal::NoTurn(_) => 19,
+            Refusal::WideTurn(_) => 20,
         }
     }
 
@@ -101,6 +110,9 @@ impl Refusal {
             Refusal::ShortStraight(index) => index,
             Refusal::SmallBuffer => 0,
             Refusal::Station => 0,
+            Refusal::Coordinate => 0,
+            Refusal::NoTurn(curve) => curve,
+            Refusal::WideTurn(curve) => curve,
         }
     }
 }

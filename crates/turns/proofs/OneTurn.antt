@@ -37,7 +37,7 @@ module _ (cross dot : ℕ) where
 
   -- ---- what the answer says: 216,001 that this too is reached, and any other that it is not, and which deflection it is
 
-  turn-most : turnOf cross dot ≤ 216000
+  pub turn-most : turnOf cross dot ≤ 216000
   unfolding turnOf
   turn-most = largest-most (reached cross dot) 216000
 
