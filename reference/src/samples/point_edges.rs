@@ -429,7 +429,7 @@ fn room_edges() -> Vec<Named<SurveyCall>> {
 }
 
 /// Legs of 300 m that bend by 36.87 degrees to either side in turn, however many.
-fn staircase(n: usize) -> Survey {
+pub fn staircase(n: usize) -> Survey {
     faulty_survey(n, &[])
 }
 
