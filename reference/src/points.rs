@@ -57,7 +57,7 @@ pub fn line_of_points(heading: Heading, points: &[i64], curves: &[u32]) -> Resul
 fn check_counts(point_numbers: usize, curve_numbers: usize) -> Result<(), Refusal> {
     let points = point_numbers / 2;
     let curves = points.saturating_sub(2);
-    let in_pairs = point_numbers % 2 == 0 && curve_numbers == 2 * curves;
+    let in_pairs = point_numbers.is_multiple_of(2) && curve_numbers == 2 * curves;
     if !in_pairs || !POINT_COUNTS.contains(&points) {
         return refuse(3, 0);
     }

@@ -61,7 +61,7 @@ const CURVE: (u32, u32) = (350_000, 0);
 const LEG: Leg = (1_000_000, 0);
 const SLOPING: Leg = (800_000, 600_000);
 
-/// Points that give document 01's case 1: no others with its first two do.
+/// Points of document 01's case 1; after the first two, no other third gives it.
 pub fn case_1() -> Survey {
     survey(&[(500_000, 0), (260_421, -303_614)], (350_000, 40_000))
 }

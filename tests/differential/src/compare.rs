@@ -99,7 +99,7 @@ pub fn compare(library: &dyn Side, input: &Input) -> Comparison {
         Request::FromPoints(survey) => with_given(input, &survey.points, |points| {
             with_given(input, &survey.curves, |curves| {
                 let call = |side: &dyn Side, line: &mut [u32]| {
-                    side.from_points(survey.heading, points, curves, line)
+                    side.line_from_points(survey.heading, points, curves, line)
                 };
                 lawful(both(input, library, call).0, library, survey)
             })

@@ -80,7 +80,7 @@ mod tests {
         let survey = staircase(2);
         let one_side = Spoilt {
             points: |heading, points, curves, line| {
-                let count = Reference.from_points(heading, points, curves, line)?;
+                let count = Reference.line_from_points(heading, points, curves, line)?;
                 line[5] = LEFT;
                 Ok(count)
             },
@@ -88,7 +88,7 @@ mod tests {
         };
         let by_place = Spoilt {
             points: |heading, points, curves, line| {
-                let count = Reference.from_points(heading, points, curves, line)?;
+                let count = Reference.line_from_points(heading, points, curves, line)?;
                 line[4] += u32::from(points.contains(&GREATEST_COORDINATE));
                 Ok(count)
             },
@@ -96,7 +96,7 @@ mod tests {
         };
         let without_radius = Spoilt {
             points: |heading, points, curves, line| {
-                let count = Reference.from_points(heading, points, curves, line)?;
+                let count = Reference.line_from_points(heading, points, curves, line)?;
                 line[7] = 0;
                 Ok(count)
             },

@@ -25,7 +25,7 @@ pub trait Side {
     fn read(&self, sheet: &[u8], line: &mut [u32]) -> Answer;
     fn write(&self, line: &[u32], bytes: &mut [u8]) -> Answer;
     fn peg(&self, sheet: &[u8], station: u64, numbers: &mut [i64]) -> Answer;
-    fn from_points(
+    fn line_from_points(
         &self,
         heading: Heading,
         points: &[i64],
@@ -70,7 +70,7 @@ impl Side for Library {
         answer_of(pokyandi::peg(sheet, station, numbers))
     }
 
-    fn from_points(
+    fn line_from_points(
         &self,
         Heading { v, e, start }: Heading,
         points: &[i64],
@@ -129,7 +129,7 @@ impl Side for Reference {
         peg(&sheet::read(sheet)?, station, numbers)
     }
 
-    fn from_points(
+    fn line_from_points(
         &self,
         heading: Heading,
         points: &[i64],
@@ -164,7 +164,7 @@ pub fn line_of(side: &dyn Side, survey: &Survey) -> Result<Vec<u32>, Refusal> {
         curves,
     } = survey;
     let mut line = [0; pokyandi::LINE_NUMBERS];
-    let count = side.from_points(*heading, points, curves, &mut line)?;
+    let count = side.line_from_points(*heading, points, curves, &mut line)?;
     Ok(line[..count].to_vec())
 }
 
@@ -251,7 +251,7 @@ mod tests {
             curves,
         } = case_1();
         let from_points = |points: &[i64], line: &mut [u32]| {
-            let answer = side.from_points(heading, points, &curves, line);
+            let answer = side.line_from_points(heading, points, &curves, line);
             answer.map(|count| line[..count].to_vec())
         };
         assert_eq!(from_points(&points, &mut [7; 11]), Ok(line.to_vec()));

@@ -23,7 +23,7 @@ pub struct Spoilt {
     pub numbers: Change<u64>,
     /// Of calls that are lent bytes, and of `check`, which is lent nothing.
     pub bytes: Change<u8>,
-    /// Of `read` and `from_points`, which are lent the numbers of a line.
+    /// Of `read` and `line_from_points`, which are lent the numbers of a line.
     pub line: Change<u32>,
     /// Of `peg`, which is lent signed numbers.
     pub signed: Change<i64>,
@@ -42,7 +42,7 @@ impl Spoilt {
         signed: |answer, _| answer,
         peg: |sheet, station, numbers| Reference.peg(sheet, station, numbers),
         points: |heading, points, curves, line| {
-            Reference.from_points(heading, points, curves, line)
+            Reference.line_from_points(heading, points, curves, line)
         },
     };
 }
@@ -80,7 +80,7 @@ impl Side for Spoilt {
         (self.signed)((self.peg)(sheet, station, numbers), numbers)
     }
 
-    fn from_points(
+    fn line_from_points(
         &self,
         heading: Heading,
         points: &[i64],
@@ -210,7 +210,7 @@ fn changed_curves(
     line: &mut [u32],
     change: fn(i128, i128, &mut u32, &mut u32),
 ) -> Answer {
-    let count = Reference.from_points(heading, points, curves, line)?;
+    let count = Reference.line_from_points(heading, points, curves, line)?;
     for i in 1..=curves.len() / 2 {
         let [side, seconds] = &mut line[5 * i..5 * i + 2] else {
             panic!("two numbers")
@@ -237,7 +237,7 @@ fn products(points: &[i64], i: usize) -> (i128, i128) {
 }
 
 fn rounded_up(heading: Heading, points: &[i64], curves: &[u32], line: &mut [u32]) -> Answer {
-    let count = Reference.from_points(heading, points, curves, line)?;
+    let count = Reference.line_from_points(heading, points, curves, line)?;
     for i in 0..=curves.len() / 2 {
         let (east, north) = leg(points, i);
         let distance = &mut line[5 * i + 4];
@@ -254,7 +254,7 @@ fn without_greatest_turn(
     line: &mut [u32],
 ) -> Answer {
     let before = line.to_vec();
-    let count = Reference.from_points(heading, points, curves, line)?;
+    let count = Reference.line_from_points(heading, points, curves, line)?;
     match (1..=curves.len() / 2).find(|i| line[5 * i + 1] == GREATEST_TURN) {
         Some(i) => {
             line.copy_from_slice(&before);
@@ -272,14 +272,14 @@ fn refused_otherwise(
     line: &mut [u32],
     other: impl Fn(Refusal, usize) -> Option<Refusal>,
 ) -> Answer {
-    let answer = Reference.from_points(heading, points, curves, line);
+    let answer = Reference.line_from_points(heading, points, curves, line);
     answer.map_err(|refusal| other(refusal, line.len()).unwrap_or(refusal))
 }
 
 /// The refusal of a part of the points, beside the same speed, crossfall and start.
 fn refusal_of(heading: Heading, points: &[i64], curves: &[u32]) -> Option<Refusal> {
     let mut line = [0; pokyandi::LINE_NUMBERS];
-    let answer = Reference.from_points(heading, points, curves, &mut line);
+    let answer = Reference.line_from_points(heading, points, curves, &mut line);
     answer.err()
 }
 
