@@ -96,7 +96,7 @@ pub fn quotient(upper: i128, lower: i128) -> i128 {
 }
 
 /// Full angle: A × 3,141,592,654 / 648,000 (document 01, Working rule).
-fn full_angle(a: u32) -> i128 {
+pub fn full_angle(a: u32) -> i128 {
     quotient(i128::from(a) * PI, 648_000)
 }
 
@@ -112,7 +112,7 @@ pub fn spiral_angle(l: u32, r: u32) -> i128 {
 
 /// Sine of q: terms q, then former × z / (10⁹ × 2j × (2j + 1)), j = 1 to 6,
 /// signs alternating, first plus (document 01, Working rule).
-fn sine(q: i128) -> i128 {
+pub fn sine(q: i128) -> i128 {
     let z = quotient(q * q, SCALE);
     let mut term = q;
     let mut sum = term;
@@ -125,7 +125,7 @@ fn sine(q: i128) -> i128 {
 
 /// Cosine of q: terms 10⁹, then former × z / (10⁹ × (2j − 1) × 2j), j = 1 to
 /// 6, signs alternating, first plus (document 01, Working rule).
-fn cosine(q: i128) -> i128 {
+pub fn cosine(q: i128) -> i128 {
     let z = quotient(q * q, SCALE);
     let mut term = SCALE;
     let mut sum = term;

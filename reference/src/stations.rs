@@ -13,11 +13,17 @@ pub const LEAST_STRAIGHT: i128 = 1_000;
 /// front of the row, in µm, and returns their count 4 × n + 1. A refusal leaves
 /// the row as it is.
 pub fn stations(line: &Line, row: &mut [u64]) -> Result<usize, Refusal> {
-    line.check_ranges()?;
-    check_curves(line)?;
-    check_straights(line)?;
+    check(line)?;
     let points = points(line);
     fill(row, &points)
+}
+
+/// The calculator's checks but 16: 3 to 6, 8 to 11 in sheet order, then 12 to 14
+/// curve by curve, then 15.
+pub fn check(line: &Line) -> Result<(), Refusal> {
+    line.check_ranges()?;
+    check_curves(line)?;
+    check_straights(line)
 }
 
 /// Checks 12, 13 and 14, curve by curve.

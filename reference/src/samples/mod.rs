@@ -10,6 +10,7 @@ pub mod line_edges;
 pub mod lines;
 pub mod named;
 pub mod peg_edges;
+pub mod point_edges;
 pub mod ranges;
 pub mod roads;
 pub mod sheet_edges;
@@ -17,6 +18,7 @@ pub mod sheet_fields;
 pub mod sheets;
 pub mod station_cases;
 pub mod station_sheets;
+pub mod surveys;
 pub mod writer_edges;
 
 mod call_edges;

@@ -122,6 +122,7 @@ mod tests {
         assert_eq!(refusal("case-10-cut"), Some((1, 0)));
     }
 
+    /// No sheet is refused 16 to 20: they are for buffers, pegs and coordinates.
     #[test]
     fn every_refusal_at_its_place() {
         let places = [0, 0, 0, 0, 0, 0, 0, 64, 1, 64, 32, 12, 64, 33, 64];

@@ -2,9 +2,11 @@
 //! write is compared.
 
 use crate::input::{Input, Request};
+use crate::laws::broken_law;
 use crate::memory::{Entry, EntryDifference, Memory};
 use crate::side::{Answer, Reference, Side};
 use reference::report::refusal_number;
+use reference::samples::surveys::Survey;
 use std::fmt;
 use std::hint::black_box;
 
@@ -15,11 +17,14 @@ pub enum Difference {
     Answer,
     /// An entry of the lent memory, or a guard of it.
     Lent(EntryDifference),
-    /// An entry of the given sheet or line, or a guard of it, that was changed.
+    /// An entry of the given sheet, line, points or curves, or a guard of it, that
+    /// was changed.
     Given(EntryDifference),
     /// Writing what was read, or reading what was written, does not give the
     /// sheet or line back.
     NotBack,
+    /// A law of lines from coordinates is broken.
+    Law(&'static str),
 }
 
 impl fmt::Display for Difference {
@@ -33,12 +38,13 @@ impl fmt::Display for Difference {
             ),
             Difference::Given(entry) => write!(
                 f,
-                "entry {} of the given sheet or line: {} before the call, {} after it",
+                "entry {} of what is given: {} before the call, {} after it",
                 entry.index, entry.expected, entry.found
             ),
             Difference::NotBack => {
                 write!(f, "the library's reader and writer do not undo each other")
             }
+            Difference::Law(law) => write!(f, "{law}"),
         }
     }
 }
@@ -90,6 +96,26 @@ pub fn compare(library: &dyn Side, input: &Input) -> Comparison {
             let call = |side: &dyn Side, numbers: &mut [i64]| side.peg(sheet, *station, numbers);
             both(input, library, call).0
         }),
+        Request::FromPoints(survey) => with_given(input, &survey.points, |points| {
+            with_given(input, &survey.curves, |curves| {
+                let call = |side: &dyn Side, line: &mut [u32]| {
+                    side.line_from_points(survey.heading, points, curves, line)
+                };
+                lawful(both(input, library, call).0, library, survey)
+            })
+        }),
+    }
+}
+
+/// Sees that the library keeps the laws of lines from coordinates, where the sides
+/// agree.
+fn lawful(comparison: Comparison, library: &dyn Side, survey: &Survey) -> Comparison {
+    if comparison.difference.is_some() {
+        return comparison;
+    }
+    Comparison {
+        difference: broken_law(library, survey).map(Difference::Law),
+        ..comparison
     }
 }
 
@@ -185,6 +211,7 @@ mod tests {
     use crate::spoilt::{Change, Spoilt};
     use reference::line::Line;
     use reference::refusal::refuse;
+    use reference::samples::point_edges::case_1;
     use reference::samples::sheet_fields::sheet_of;
 
     /// A count that is one too large.
@@ -253,6 +280,7 @@ mod tests {
             .into();
         requests.push(Request::Elements(Line::case_1().curve(1)));
         requests.push(Request::Write(Line::case_1().numbers()));
+        requests.push(Request::FromPoints(case_1()));
         assert_eq!(requests.len(), Call::ALL.len());
         requests
     }
@@ -353,6 +381,21 @@ mod tests {
             assert_eq!(difference(&library, &read, Room::Needed(0)), not_back);
             assert_eq!(difference(&library, &read, Room::Needed(-1)), None);
         }
+    }
+
+    /// The answer is as it should be, but a line of full room is not.
+    #[test]
+    fn broken_laws_are_found() {
+        let library = Spoilt {
+            line: |answer, line| {
+                line[5] = 1;
+                answer
+            },
+            ..Spoilt::NOT
+        };
+        let left = Request::FromPoints(case_1().mirrored());
+        let found = difference(&library, &left, Room::Needed(0));
+        assert!(matches!(found, Some(Difference::Law(_))), "{found:?}");
     }
 
     #[test]

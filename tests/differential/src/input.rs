@@ -1,10 +1,11 @@
-//! One input: a call, its sheet, curve or line, and the room that is lent.
+//! One input: a call, its sheet, curve, line or points, and the room that is lent.
 
 use crate::side::{stretches_of, text_of};
 use reference::curve::Curve;
 use reference::line::MOST_CURVES;
 use reference::line_numbers::number_count;
 use reference::samples::sheet_fields::COUNT;
+use reference::samples::surveys::Survey;
 use reference::sheet::sheet_length;
 
 /// The calls.
@@ -18,10 +19,11 @@ pub enum Call {
     Read,
     Write,
     Peg,
+    FromPoints,
 }
 
 impl Call {
-    pub const ALL: [Call; 8] = [
+    pub const ALL: [Call; 9] = [
         Call::Stations,
         Call::Check,
         Call::Rewrite,
@@ -30,6 +32,7 @@ impl Call {
         Call::Read,
         Call::Write,
         Call::Peg,
+        Call::FromPoints,
     ];
 
     pub fn name(self) -> &'static str {
@@ -42,6 +45,7 @@ impl Call {
             Call::Read => "read",
             Call::Write => "write",
             Call::Peg => "peg",
+            Call::FromPoints => "points",
         }
     }
 
@@ -56,6 +60,7 @@ impl Call {
             Call::Read => 340,
             Call::Write => 740,
             Call::Peg => 12,
+            Call::FromPoints => 340,
         }
     }
 
@@ -69,12 +74,13 @@ impl Call {
             Call::Text => vec![16],
             Call::Write => vec![3, 4, 5, 6, 8, 9, 10, 11, 16],
             Call::Peg => (1..=17).collect(),
+            Call::FromPoints => vec![3, 4, 5, 6, 8, 10, 11, 12, 13, 14, 15, 16, 18, 19, 20],
         }
     }
 }
 
-/// A call with its sheet, its curve or the numbers of its line; a peg with its
-/// station too.
+/// A call with its sheet, its curve, the numbers of its line or its points; a peg
+/// with its station too.
 #[derive(Clone, Debug, PartialEq, Eq)]
 pub enum Request {
     Stations(Vec<u8>),
@@ -85,6 +91,7 @@ pub enum Request {
     Read(Vec<u8>),
     Write(Vec<u32>),
     Peg(Vec<u8>, u64),
+    FromPoints(Survey),
 }
 
 impl Request {
@@ -116,11 +123,12 @@ impl Request {
             Request::Read(_) => Call::Read,
             Request::Write(_) => Call::Write,
             Request::Peg(..) => Call::Peg,
+            Request::FromPoints(_) => Call::FromPoints,
         }
     }
 
-    /// How many curves the sheet or line says that it has, at most 64; 0 where
-    /// it does not say it.
+    /// How many curves the sheet or line says that it has or the points have, at
+    /// most 64; 0 where it is not said.
     pub fn curves(&self) -> usize {
         match self {
             Request::Elements(_) => 0,
@@ -131,6 +139,7 @@ impl Request {
             | Request::Read(sheet)
             | Request::Peg(sheet, _) => curves_of(sheet),
             Request::Write(line) => line.first().map_or(0, |n| at_most_64(*n)),
+            Request::FromPoints(survey) => survey.curve_count().min(MOST_CURVES),
         }
     }
 
@@ -144,7 +153,7 @@ impl Request {
             Request::Rewrite(_) | Request::Write(_) => sheet_length(n),
             Request::Elements(_) => pokyandi::ELEMENT_NUMBERS,
             Request::Text(sheet) => text_of(sheet).len(),
-            Request::Read(_) => number_count(n),
+            Request::Read(_) | Request::FromPoints(_) => number_count(n),
             Request::Peg(..) => pokyandi::PEG_NUMBERS,
         }
     }
@@ -195,6 +204,7 @@ impl Input {
 mod tests {
     use super::*;
     use reference::line::Line;
+    use reference::samples::point_edges::case_1;
     use reference::samples::sheet_fields::sheet_of;
 
     #[test]
@@ -207,6 +217,7 @@ mod tests {
         assert_eq!(line.needed(), 21);
         let curve = Request::Elements(Line::case_1().curve(1));
         assert_eq!(curve.needed(), 6);
+        assert_eq!(Request::FromPoints(case_1()).needed(), 10);
     }
 
     #[test]
@@ -223,6 +234,13 @@ mod tests {
         assert_eq!(Request::Peg(vec![], 0).needed(), 5);
         assert_eq!(Request::Write(vec![]).needed(), 10);
         assert_eq!(Request::Write(vec![u32::MAX]).needed(), 706);
+        let of_points = |count| {
+            let points = vec![0; count];
+            let survey = Survey { points, ..case_1() };
+            Request::FromPoints(survey).needed()
+        };
+        let needs = [0, 5, 7, 132, 134, 1_000].map(of_points);
+        assert_eq!(needs, [5, 5, 10, 325, 325, 325]);
     }
 
     #[test]

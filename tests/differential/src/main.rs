@@ -1,16 +1,18 @@
 //! Holds the proved static library against the separately written reference: the
 //! same inputs for both, and all that they answer and write compared; its
-//! stations and elements against document 01's sums in fractions, and those of a
-//! published example.
+//! stations and elements against document 01's sums in fractions, and what it
+//! gives for published examples.
 
 mod accuracy;
 mod arguments;
 mod compare;
 mod input;
 mod inputs;
+mod laws;
 mod memory;
 mod progress;
 mod published;
+mod published_lines;
 mod run;
 mod side;
 #[cfg(test)]
@@ -40,12 +42,17 @@ fn main() -> ExitCode {
         Ok(Command::Accuracy { seed, lines }) => {
             print_checked(accuracy::watch(&Library, seed, lines))
         }
-        Ok(Command::Published) => print_checked(published::check(&Library)),
+        Ok(Command::Published) => print_checked(published()),
         Err(message) => {
             eprint!("differential: {message}\n\n{USAGE}");
             ExitCode::from(NOT_UNDERSTOOD)
         }
     }
+}
+
+/// The published elements and the published lines.
+fn published() -> Result<String, String> {
+    Ok(published::check(&Library)? + &published_lines::check(&Library)?)
 }
 
 fn run(seed: u64, count: u64) -> ExitCode {

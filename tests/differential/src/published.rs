@@ -87,7 +87,7 @@ fn decimals(metres: &str) -> u32 {
 }
 
 /// Micrometres as metres with so many decimals, rounded half up.
-fn rounded(micrometres: u64, decimals: u32) -> String {
+pub fn rounded(micrometres: u64, decimals: u32) -> String {
     let unit = 10_u64.pow(6 - decimals);
     let units = (micrometres + unit / 2) / unit;
     let metre = 10_u64.pow(decimals);

@@ -7,6 +7,10 @@ use crate::progress::Progress;
 use crate::side::{Answer, Side};
 use crate::tally::Tally;
 use reference::hexadecimal::digits_of;
+use reference::line::Line;
+use reference::points::Heading;
+use reference::refusal::Refusal;
+use reference::samples::surveys::Survey;
 use reference::sheet;
 use std::panic::{catch_unwind, AssertUnwindSafe};
 
@@ -67,8 +71,8 @@ fn report(inputs: &Inputs, index: u64, input: &Input, result: &Option<Comparison
     rows.concat()
 }
 
-/// The curve, the numbers of the line, or the sheet and what the reference reads
-/// in it.
+/// The curve, the numbers of the line, the points, or the sheet and what the
+/// reference reads in it.
 fn request_rows(request: &Request) -> Vec<String> {
     match request {
         Request::Elements(curve) => vec![row("curve A R L", curve)],
@@ -82,20 +86,40 @@ fn request_rows(request: &Request) -> Vec<String> {
             rows.push(row("station", station));
             rows
         }
-        Request::Write(line) => {
-            let numbers: Vec<String> = line.iter().map(u32::to_string).collect();
-            vec![row("line", numbers.join(" "))]
-        }
+        Request::Write(line) => vec![row("line", joined(line))],
+        Request::FromPoints(survey) => survey_rows(survey),
     }
 }
 
-/// The sheet in hexadecimal, and its line: `N V E START D0 SIDE A R L D1 ..`.
-pub fn sheet_rows(sheet: &[u8]) -> Vec<String> {
-    let read = match sheet::read(sheet) {
+fn joined<T: ToString>(numbers: &[T]) -> String {
+    let numbers: Vec<String> = numbers.iter().map(T::to_string).collect();
+    numbers.join(" ")
+}
+
+/// What is given beside the points, the points as east and north, radii and
+/// spirals, and the line that the reference makes of them.
+fn survey_rows(survey: &Survey) -> Vec<String> {
+    let Heading { v, e, start } = survey.heading;
+    vec![
+        row("V, e, start", joined(&[v, e, start])),
+        row("points", joined(&survey.points)),
+        row("curves R L", joined(&survey.curves)),
+        line_row(survey.line()),
+    ]
+}
+
+/// The line: `N V E START D0 SIDE A R L D1 ..`, or its refusal.
+fn line_row(line: Result<Line, Refusal>) -> String {
+    match line {
         Ok(line) => row("line", line),
         Err(refusal) => row("line", refusal),
-    };
-    vec![row("sheet", digits_of(sheet)), read]
+    }
+}
+
+/// The sheet in hexadecimal, and its line.
+pub fn sheet_rows(sheet: &[u8]) -> Vec<String> {
+    let line = line_row(sheet::read(sheet));
+    vec![row("sheet", digits_of(sheet)), line]
 }
 
 fn comparison_rows(comparison: &Comparison) -> Vec<String> {
@@ -124,9 +148,9 @@ pub fn row(name: &str, value: impl ToString) -> String {
 #[cfg(test)]
 mod tests {
     use super::*;
-    use crate::input::Room;
+    use crate::input::{Call, Room};
     use crate::side::Library;
-    use crate::spoilt::{Spoilt, PEG_FAULTS};
+    use crate::spoilt::{Spoilt, PEG_FAULTS, POINT_FAULTS};
     use reference::refusal::refuse;
 
     #[test]
@@ -174,26 +198,54 @@ mod tests {
         assert!(!found.contains("\nname "), "{found}");
     }
 
+    /// The indexes of one call's inputs: those that are not random, and random ones.
+    fn indexes_of(inputs: &Inputs, call: Call) -> [Vec<u64>; 2] {
+        let fixed = inputs.fixed();
+        let is_call = |index: &u64| inputs.input(*index).request.call() == call;
+        [0..fixed, fixed..fixed + 10_000].map(|indexes| indexes.filter(is_call).collect())
+    }
+
+    /// The report of the first of these inputs in which the fault shows.
+    fn first_report(inputs: &Inputs, indexes: &[u64], library: &Spoilt) -> Option<String> {
+        let mut reports = indexes.iter().filter_map(|index| {
+            let input = inputs.input(*index);
+            let result = compare_caught(library, &input);
+            let differs = result.as_ref()?.difference.is_some();
+            differs.then(|| report(inputs, *index, &input, &result))
+        });
+        reports.next()
+    }
+
     /// Each fault of pegs shows in the inputs with a name, and in random ones.
     #[test]
     fn faulty_pegs_are_reported() {
         let inputs = Inputs::of(1);
-        let is_peg = |index: &u64| matches!(inputs.input(*index).request, Request::Peg(..));
-        let fixed = inputs.fixed();
-        let kinds = [0..fixed, fixed..fixed + 10_000];
-        let kinds = kinds.map(|indexes| indexes.filter(is_peg).collect::<Vec<u64>>());
+        let kinds = indexes_of(&inputs, Call::Peg);
         for (fault, peg) in PEG_FAULTS {
             let library = Spoilt { peg, ..Spoilt::NOT };
             for indexes in &kinds {
-                let mut reports = indexes.iter().filter_map(|index| {
-                    let input = inputs.input(*index);
-                    let result = compare_caught(&library, &input);
-                    let differs = result.as_ref()?.difference.is_some();
-                    differs.then(|| report(&inputs, *index, &input, &result))
-                });
-                let found = reports.next().expect(fault);
+                let found = first_report(&inputs, indexes, &library).expect(fault);
                 assert!(found.contains("\ncall         peg\n"), "{found}");
                 assert!(found.contains("\nstation      "), "{found}");
+            }
+        }
+    }
+
+    /// Each fault of lines from coordinates likewise.
+    #[test]
+    fn faulty_lines_from_points_are_reported() {
+        let inputs = Inputs::of(1);
+        let kinds = indexes_of(&inputs, Call::FromPoints);
+        for (fault, points) in POINT_FAULTS {
+            let library = Spoilt {
+                points,
+                ..Spoilt::NOT
+            };
+            for indexes in &kinds {
+                let found = first_report(&inputs, indexes, &library).expect(fault);
+                assert!(found.contains("\ncall         points\n"), "{found}");
+                assert!(found.contains("\npoints       "), "{found}");
+                assert!(found.contains("\ncurves R L   "), "{found}");
             }
         }
     }

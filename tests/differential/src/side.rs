@@ -5,15 +5,17 @@ use reference::elements::{elements, Elements};
 use reference::lent::fill;
 use reference::line_numbers;
 use reference::pegs::{peg, stretches, Stretch};
+use reference::points::{from_points, Heading};
 use reference::refusal::Refusal;
 use reference::report::report;
+use reference::samples::surveys::Survey;
 use reference::sheet;
 use reference::stations::stations;
 
 /// The count of entries that a call wrote, or its refusal.
 pub type Answer = Result<usize, Refusal>;
 
-/// The calls of `include/pokyandi.h` that take a sheet, a curve or a line.
+/// The calls of `include/pokyandi.h` that take a sheet, a curve, a line or points.
 pub trait Side {
     fn stations(&self, sheet: &[u8], row: &mut [u64]) -> Answer;
     fn check(&self, sheet: &[u8]) -> Answer;
@@ -23,6 +25,13 @@ pub trait Side {
     fn read(&self, sheet: &[u8], line: &mut [u32]) -> Answer;
     fn write(&self, line: &[u32], bytes: &mut [u8]) -> Answer;
     fn peg(&self, sheet: &[u8], station: u64, numbers: &mut [i64]) -> Answer;
+    fn line_from_points(
+        &self,
+        heading: Heading,
+        points: &[i64],
+        curves: &[u32],
+        line: &mut [u32],
+    ) -> Answer;
 }
 
 /// The static library, called by way of its Rust crate.
@@ -59,6 +68,16 @@ impl Side for Library {
 
     fn peg(&self, sheet: &[u8], station: u64, numbers: &mut [i64]) -> Answer {
         answer_of(pokyandi::peg(sheet, station, numbers))
+    }
+
+    fn line_from_points(
+        &self,
+        Heading { v, e, start }: Heading,
+        points: &[i64],
+        curves: &[u32],
+        line: &mut [u32],
+    ) -> Answer {
+        answer_of(pokyandi::from_points(v, e, start, points, curves, line))
     }
 }
 
@@ -109,6 +128,16 @@ impl Side for Reference {
     fn peg(&self, sheet: &[u8], station: u64, numbers: &mut [i64]) -> Answer {
         peg(&sheet::read(sheet)?, station, numbers)
     }
+
+    fn line_from_points(
+        &self,
+        heading: Heading,
+        points: &[i64],
+        curves: &[u32],
+        line: &mut [u32],
+    ) -> Answer {
+        from_points(heading, points, curves, line)
+    }
 }
 
 /// The text of a sheet of any length. `report` looks at 707 bytes only, as the
@@ -127,12 +156,25 @@ pub fn stretches_of(sheet: &[u8]) -> Vec<Stretch> {
     stretches.unwrap_or_default()
 }
 
+/// The numbers of the line that a side makes of a survey.
+pub fn line_of(side: &dyn Side, survey: &Survey) -> Result<Vec<u32>, Refusal> {
+    let Survey {
+        heading,
+        points,
+        curves,
+    } = survey;
+    let mut line = [0; pokyandi::LINE_NUMBERS];
+    let count = side.line_from_points(*heading, points, curves, &mut line)?;
+    Ok(line[..count].to_vec())
+}
+
 #[cfg(test)]
 mod tests {
     use super::*;
     use reference::line::Line;
     use reference::refusal::refuse;
     use reference::samples::dice::Dice;
+    use reference::samples::point_edges::case_1;
     use reference::samples::roads::road;
     use reference::samples::sheet_fields::{sheet_of, COUNT, CROSSFALL, EDITION, SPEED, START};
 
@@ -202,6 +244,19 @@ mod tests {
         assert_eq!(peg, [0, 1, 219_010_722, 0, 0, 7]);
         assert_eq!(side.peg(&sheet, end, &mut peg[..4]), refuse(16, 0));
         assert_eq!(side.peg(&sheet, end + 1, &mut peg[..4]), refuse(17, 0));
+
+        let Survey {
+            heading,
+            points,
+            curves,
+        } = case_1();
+        let from_points = |points: &[i64], line: &mut [u32]| {
+            let answer = side.line_from_points(heading, points, &curves, line);
+            answer.map(|count| line[..count].to_vec())
+        };
+        assert_eq!(from_points(&points, &mut [7; 11]), Ok(line.to_vec()));
+        assert_eq!(from_points(&points, &mut [7; 9]), refuse(16, 0));
+        assert_eq!(from_points(&points[1..], &mut [7; 11]), refuse(3, 0));
     }
 
     #[test]

@@ -1,9 +1,12 @@
 //! A side for tests of the comparison: the reference, its answers and what it
-//! wrote changed; and faults of pegs.
+//! wrote changed; and faults of pegs and of lines from coordinates.
 
 use crate::side::{stretches_of, Answer, Reference, Side};
 use reference::curve::Curve;
-use reference::refusal::refuse;
+use reference::line::LEFT;
+use reference::points::{reached, Heading, GREATEST_COORDINATE, GREATEST_TURN};
+use reference::refusal::{refuse, Refusal};
+use reference::road_tables::DesignSpeed;
 use reference::sheet;
 
 /// How the answer and the lent entries of a call are changed.
@@ -12,17 +15,22 @@ pub type Change<T> = fn(Answer, &mut [T]) -> Answer;
 /// How a peg is worked out.
 pub type PegCall = fn(&[u8], u64, &mut [i64]) -> Answer;
 
+/// How a line is made of its points.
+pub type PointsCall = fn(Heading, &[i64], &[u32], &mut [u32]) -> Answer;
+
 pub struct Spoilt {
     /// Of calls that are lent a row or the numbers of elements.
     pub numbers: Change<u64>,
     /// Of calls that are lent bytes, and of `check`, which is lent nothing.
     pub bytes: Change<u8>,
-    /// Of `read`, which is lent the numbers of a line.
+    /// Of `read` and `line_from_points`, which are lent the numbers of a line.
     pub line: Change<u32>,
     /// Of `peg`, which is lent signed numbers.
     pub signed: Change<i64>,
     /// Before that, the peg itself.
     pub peg: PegCall,
+    /// The same of the line that is made of points.
+    pub points: PointsCall,
 }
 
 impl Spoilt {
@@ -33,6 +41,9 @@ impl Spoilt {
         line: |answer, _| answer,
         signed: |answer, _| answer,
         peg: |sheet, station, numbers| Reference.peg(sheet, station, numbers),
+        points: |heading, points, curves, line| {
+            Reference.line_from_points(heading, points, curves, line)
+        },
     };
 }
 
@@ -67,6 +78,16 @@ impl Side for Spoilt {
 
     fn peg(&self, sheet: &[u8], station: u64, numbers: &mut [i64]) -> Answer {
         (self.signed)((self.peg)(sheet, station, numbers), numbers)
+    }
+
+    fn line_from_points(
+        &self,
+        heading: Heading,
+        points: &[i64],
+        curves: &[u32],
+        line: &mut [u32],
+    ) -> Answer {
+        (self.line)((self.points)(heading, points, curves, line), line)
     }
 }
 
@@ -139,4 +160,199 @@ fn small_buffer_first(sheet: &[u8], station: u64, numbers: &mut [i64]) -> Answer
             17 if numbers.len() < pokyandi::PEG_NUMBERS => refuse(16, 0),
             _ => Err(refusal),
         })
+}
+
+/// Faults of lines from coordinates.
+pub const POINT_FAULTS: [(&str, PointsCall); 12] = [
+    ("the side is the other one", other_sides),
+    ("a distance is rounded up", rounded_up),
+    ("a second with equal products is not reached", without_ties),
+    ("sine and cosine are exchanged", complements),
+    ("216,000 is refused", without_greatest_turn),
+    ("19 comes before 20 at one point", straight_first),
+    ("19 comes after 20 of later points", wide_turns_first),
+    ("18 comes after 8", distances_first),
+    ("8 comes after 20 and 19", turns_first),
+    (
+        "the place of 20 is the distance before it",
+        place_of_distance,
+    ),
+    ("4 comes before 20 and 19", speed_first),
+    ("16 comes before 20 and 19", room_first),
+];
+
+fn other_sides(heading: Heading, points: &[i64], curves: &[u32], line: &mut [u32]) -> Answer {
+    changed_curves(heading, points, curves, line, |_, _, side, _| {
+        *side = LEFT - *side
+    })
+}
+
+fn without_ties(heading: Heading, points: &[i64], curves: &[u32], line: &mut [u32]) -> Answer {
+    changed_curves(heading, points, curves, line, |cross, dot, _, seconds| {
+        // With a cross product that is less by a little.
+        let times = 1 << 40;
+        let reached = reached(times * cross.abs() - 1, times * dot, *seconds);
+        *seconds -= u32::from(!reached);
+    })
+}
+
+fn complements(heading: Heading, points: &[i64], curves: &[u32], line: &mut [u32]) -> Answer {
+    changed_curves(heading, points, curves, line, |_, _, _, seconds| {
+        *seconds = 324_000 - *seconds
+    })
+}
+
+/// Changes side and seconds of each curve; cross and dot product come first.
+fn changed_curves(
+    heading: Heading,
+    points: &[i64],
+    curves: &[u32],
+    line: &mut [u32],
+    change: fn(i128, i128, &mut u32, &mut u32),
+) -> Answer {
+    let count = Reference.line_from_points(heading, points, curves, line)?;
+    for i in 1..=curves.len() / 2 {
+        let [side, seconds] = &mut line[5 * i..5 * i + 2] else {
+            panic!("two numbers")
+        };
+        let (cross, dot) = products(points, i);
+        change(cross, dot, side, seconds);
+    }
+    Ok(count)
+}
+
+/// The leg from point i to the next.
+fn leg(points: &[i64], i: usize) -> (i128, i128) {
+    let along = |axis: usize| i128::from(points[2 * i + 2 + axis] - points[2 * i + axis]);
+    (along(0), along(1))
+}
+
+/// Cross and dot product at point i.
+fn products(points: &[i64], i: usize) -> (i128, i128) {
+    let (into, out) = (leg(points, i - 1), leg(points, i));
+    (
+        into.0 * out.1 - into.1 * out.0,
+        into.0 * out.0 + into.1 * out.1,
+    )
+}
+
+fn rounded_up(heading: Heading, points: &[i64], curves: &[u32], line: &mut [u32]) -> Answer {
+    let count = Reference.line_from_points(heading, points, curves, line)?;
+    for i in 0..=curves.len() / 2 {
+        let (east, north) = leg(points, i);
+        let distance = &mut line[5 * i + 4];
+        let square = i128::from(*distance).pow(2);
+        *distance += u32::from(square < east * east + north * north);
+    }
+    Ok(count)
+}
+
+fn without_greatest_turn(
+    heading: Heading,
+    points: &[i64],
+    curves: &[u32],
+    line: &mut [u32],
+) -> Answer {
+    let before = line.to_vec();
+    let count = Reference.line_from_points(heading, points, curves, line)?;
+    match (1..=curves.len() / 2).find(|i| line[5 * i + 1] == GREATEST_TURN) {
+        Some(i) => {
+            line.copy_from_slice(&before);
+            refuse(20, i)
+        }
+        None => Ok(count),
+    }
+}
+
+/// The reference's answer, another one for some of its refusals.
+fn refused_otherwise(
+    heading: Heading,
+    points: &[i64],
+    curves: &[u32],
+    line: &mut [u32],
+    other: impl Fn(Refusal, usize) -> Option<Refusal>,
+) -> Answer {
+    let answer = Reference.line_from_points(heading, points, curves, line);
+    answer.map_err(|refusal| other(refusal, line.len()).unwrap_or(refusal))
+}
+
+/// The refusal of a part of the points, beside the same speed, crossfall and start.
+fn refusal_of(heading: Heading, points: &[i64], curves: &[u32]) -> Option<Refusal> {
+    let mut line = [0; pokyandi::LINE_NUMBERS];
+    let answer = Reference.line_from_points(heading, points, curves, &mut line);
+    answer.err()
+}
+
+fn is_of_a_turn(refusal: &Refusal) -> bool {
+    matches!(refusal.number, 19 | 20)
+}
+
+fn straight_first(heading: Heading, points: &[i64], curves: &[u32], line: &mut [u32]) -> Answer {
+    refused_otherwise(heading, points, curves, line, |refusal, _| {
+        let straight = refusal.number == 20 && products(points, refusal.place).0 == 0;
+        straight.then_some(Refusal {
+            number: 19,
+            ..refusal
+        })
+    })
+}
+
+fn wide_turns_first(heading: Heading, points: &[i64], curves: &[u32], line: &mut [u32]) -> Answer {
+    refused_otherwise(heading, points, curves, line, |refusal, _| {
+        let i = refusal.place;
+        if refusal.number != 19 {
+            return None;
+        }
+        let later = refusal_of(heading, &points[2 * i..], &curves[2 * i..])?;
+        (later.number == 20).then_some(later.at(i + later.place))
+    })
+}
+
+fn distances_first(heading: Heading, points: &[i64], curves: &[u32], line: &mut [u32]) -> Answer {
+    refused_otherwise(heading, points, curves, line, |refusal, _| {
+        if refusal.number != 18 {
+            return None;
+        }
+        let limit = GREATEST_COORDINATE;
+        let within: Vec<i64> = points.iter().map(|at| *at.clamp(&-limit, &limit)).collect();
+        let other = refusal_of(heading, &within, curves)?;
+        (other.number == 8).then_some(other)
+    })
+}
+
+fn turns_first(heading: Heading, points: &[i64], curves: &[u32], line: &mut [u32]) -> Answer {
+    refused_otherwise(heading, points, curves, line, |refusal, _| {
+        let i = refusal.place;
+        if refusal.number != 8 || i < 2 {
+            return None;
+        }
+        let former = refusal_of(heading, &points[..2 * i + 2], &curves[..2 * i - 2]);
+        former.filter(is_of_a_turn)
+    })
+}
+
+fn place_of_distance(heading: Heading, points: &[i64], curves: &[u32], line: &mut [u32]) -> Answer {
+    refused_otherwise(heading, points, curves, line, |refusal, _| {
+        (refusal.number == 20).then(|| refusal.at(refusal.place - 1))
+    })
+}
+
+fn speed_first(heading: Heading, points: &[i64], curves: &[u32], line: &mut [u32]) -> Answer {
+    refused_otherwise(heading, points, curves, line, |refusal, _| {
+        let speed = DesignSpeed::of(heading.v);
+        (is_of_a_turn(&refusal) && speed.is_none()).then_some(Refusal {
+            number: 4,
+            place: 0,
+        })
+    })
+}
+
+fn room_first(heading: Heading, points: &[i64], curves: &[u32], line: &mut [u32]) -> Answer {
+    refused_otherwise(heading, points, curves, line, |refusal, room| {
+        let small = room < 5 + curves.len() / 2 * 5;
+        (is_of_a_turn(&refusal) && small).then_some(Refusal {
+            number: 16,
+            place: 0,
+        })
+    })
 }

@@ -4,8 +4,8 @@ use crate::compare::Comparison;
 use crate::input::{Call, Input};
 use reference::line::MOST_CURVES;
 
-/// Accepted, and the refusals 1 to 17.
-const OUTCOMES: usize = 18;
+/// Accepted, and the refusals 1 to 20.
+const OUTCOMES: usize = 21;
 
 /// The last refusal that a text tells.
 const MOST_TOLD: usize = 15;
@@ -132,6 +132,7 @@ mod tests {
     use crate::input::{Request, Room};
     use crate::side::Answer;
     use reference::refusal::refuse;
+    use reference::samples::point_edges::staircase;
 
     fn add(tally: &mut Tally, request: Request, answer: Answer, told: Option<usize>) {
         let input = Input {
@@ -176,18 +177,22 @@ mod tests {
         let peg = Request::Peg(vec![0x18, 0x00], 0);
         add(&mut tally, peg.clone(), Ok(5), None);
         add(&mut tally, peg, refuse(17, 0), None);
+        let points = Request::FromPoints(staircase(64));
+        add(&mut tally, points.clone(), Ok(325), None);
+        add(&mut tally, points, refuse(19, 64), None);
         for (name, expected) in [
-            ("accepted ", "1 0 0 0 2 0 1 1 1"),
-            ("accepted, 64", "1 0 0 - 1 0 1 1"),
-            ("refused 8", "0 0 0 - - 0 1 0 1"),
-            ("refused 7", "0 0 0 - - 0 - 0 0"),
-            ("refused 16", "1 - 0 0 0 0 0 0 -"),
-            ("refused 17", "- - - - - - - 1 -"),
-            ("all", "2 0 0 0 2 0 2 2 2"),
+            ("accepted ", "1 0 0 0 2 0 1 1 1 1"),
+            ("accepted, 64", "1 0 0 - 1 0 1 1 1"),
+            ("refused 8", "0 0 0 - - 0 1 0 0 1"),
+            ("refused 7", "0 0 0 - - 0 - 0 - 0"),
+            ("refused 16", "1 - 0 0 0 0 0 0 0 -"),
+            ("refused 17", "- - - - - - - 1 - -"),
+            ("refused 19", "- - - - - - - - 1 -"),
+            ("all", "2 0 0 0 2 0 2 2 2 2"),
         ] {
             assert_eq!(columns(&tally, name).join(" "), expected);
         }
-        assert_eq!(tally.total(), 8);
+        assert_eq!(tally.total(), 10);
     }
 
     #[test]
@@ -204,6 +209,8 @@ mod tests {
         tally.answered[Call::Write as usize][3] = 0;
         tally.answered[Call::Read as usize][0] = 0;
         tally.answered[Call::Peg as usize][17] = 0;
+        tally.answered[Call::FromPoints as usize][9] = 0;
+        tally.answered[Call::FromPoints as usize][20] = 0;
         tally.told[3] = 0;
         tally.told[16] = 0;
         tally.told[17] = 0;
@@ -214,6 +221,7 @@ mod tests {
                 "read accepted",
                 "write refused 3",
                 "peg refused 17",
+                "points refused 20",
                 "text telling refused 3"
             ]
         );

@@ -8,6 +8,7 @@ mod lines;
 mod named;
 pub mod near_limits;
 mod pegs;
+mod points;
 mod sheets;
 
 use crate::input::{Input, Request, Room};
@@ -15,8 +16,10 @@ use curves::any_curve;
 use lines::any_line;
 use named::{named_requests, NamedRequest};
 use pegs::any_peg;
+use points::any_survey;
 use reference::line::{Line, MOST_CURVES};
 use reference::samples::dice::Dice;
+use reference::samples::point_edges::{case_1, staircase};
 use reference::samples::roads::road;
 use reference::samples::sheet_fields::sheet_of;
 use sheets::any_sheet;
@@ -85,8 +88,8 @@ impl Inputs {
     }
 }
 
-/// Case 1 and a road of 64 curves with the calls that take a sheet or a line, and
-/// case 1's curve.
+/// Case 1 and a road of 64 curves with the calls that take a sheet or a line, case
+/// 1's curve, and one and 64 curves by points.
 fn sized_requests(seed: u64) -> Vec<Request> {
     let lines = [Line::case_1(), road(&mut Dice::new(seed), MOST_CURVES)];
     let mut requests = vec![Request::Elements(Line::case_1().curve(1))];
@@ -95,6 +98,7 @@ fn sized_requests(seed: u64) -> Vec<Request> {
         requests.extend(Request::OF_A_SHEET.map(|request| request(sheet.clone())));
         requests.push(Request::Write(line.numbers()));
     }
+    requests.extend([case_1(), staircase(MOST_CURVES)].map(Request::FromPoints));
     requests
 }
 
@@ -117,7 +121,7 @@ fn any_request_and_room(dice: &mut Dice) -> (Request, Room) {
 }
 
 fn any_request(dice: &mut Dice) -> Request {
-    match dice.between(0, 35) {
+    match dice.between(0, 41) {
         0..=6 => Request::Stations(any_sheet(dice)),
         7..=8 => Request::Check(any_sheet(dice)),
         9..=12 => Request::Rewrite(any_sheet(dice)),
@@ -125,7 +129,8 @@ fn any_request(dice: &mut Dice) -> Request {
         16..=19 => Request::Text(any_sheet(dice)),
         20..=23 => Request::Read(any_sheet(dice)),
         24..=29 => Request::Write(any_line(dice)),
-        _ => any_peg(dice),
+        30..=35 => any_peg(dice),
+        _ => Request::FromPoints(any_survey(dice)),
     }
 }
 

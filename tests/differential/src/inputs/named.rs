@@ -10,6 +10,7 @@ use reference::samples::dice::Dice;
 use reference::samples::line_edges;
 use reference::samples::named::{named, Claim, Named};
 use reference::samples::peg_edges;
+use reference::samples::point_edges;
 use reference::samples::roads::road;
 use reference::samples::sheet_edges;
 use reference::samples::sheet_fields::{sheet_of, sheet_of_any};
@@ -34,6 +35,7 @@ pub fn named_requests() -> Vec<NamedRequest> {
         edges_of_the_writer(&mut dice),
         odd_lines(&mut dice),
         pegs(&mut dice),
+        points(),
     ]
     .concat();
     let without_room = without_room(&requests);
@@ -150,6 +152,16 @@ fn pegs(dice: &mut Dice) -> Vec<NamedRequest> {
         request_of(edge, |call| {
             let request = Request::Peg(sheet_of(&call.line), call.station);
             (request, Room::Entries(call.room))
+        })
+    });
+    requests.collect()
+}
+
+fn points() -> Vec<NamedRequest> {
+    let edges = point_edges::edges().into_iter();
+    let requests = edges.map(|edge| {
+        request_of(edge, |call| {
+            (Request::FromPoints(call.survey), Room::Entries(call.room))
         })
     });
     requests.collect()
@@ -306,6 +318,7 @@ mod tests {
             edges_of_the_writer(&mut dice).len(),
             odd_lines(&mut dice).len(),
             pegs(&mut dice).len(),
+            points().len(),
         ];
         // Of the calculator's 324 lines no sheet can hold 26; 7 rooms are too
         // small.
@@ -320,10 +333,11 @@ mod tests {
                 8 + 469,
                 165,
                 93,
-                1_650 + 8 + 8
+                1_650 + 8 + 8,
+                1_050,
             ]
         );
-        let without_room = 2_451;
+        let without_room = 3_096;
         let all = counts.iter().sum::<usize>() + without_room;
         assert_eq!(named_requests().len(), all);
     }
@@ -351,12 +365,15 @@ mod tests {
     }
 
     /// Every refusal of every call is claimed; too small rooms only of the calls
-    /// of a line and of pegs, the other calls have every size elsewhere.
+    /// of a line, of pegs and of points, the other calls have every size elsewhere.
     #[test]
     fn every_refusal_is_claimed() {
         for call in Call::ALL {
             let mut expected: BTreeSet<u8> = call.refusals().into_iter().collect();
-            if !matches!(call, Call::Stations | Call::Write | Call::Peg) {
+            if !matches!(
+                call,
+                Call::Stations | Call::Write | Call::Peg | Call::FromPoints
+            ) {
                 expected.remove(&16);
             }
             let claimed: BTreeSet<u8> = named_requests()
