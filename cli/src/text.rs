@@ -232,11 +232,17 @@ impl<'a> Items<'a> {
     /// Whether points are to be taken; a text has no distances or curves then.
     fn are_points(&self) -> Result<bool, Remark> {
         let items = self.rest.as_slice();
-        let is_point = |item: &Item| item.is("point");
-        let are_points = items.first().is_some_and(is_point);
+        let are_points = match items.first() {
+            Some(item) if item.is("point") => true,
+            Some(item) if item.is("distance") => false,
+            other => {
+                let example = format!("{DISTANCE}, or: {END}");
+                return self.wanted("distance or point", other, &example);
+            }
+        };
         let is_other = |item: &&Item| match are_points {
             true => item.is("distance") || item.is("curve"),
-            false => is_point(item),
+            false => item.is("point"),
         };
         match items.iter().find(is_other) {
             None => Ok(are_points),
@@ -298,23 +304,10 @@ impl<'a> Items<'a> {
     /// begins with, and as many values.
     fn take(&mut self, example: &str) -> Result<Item<'a>, Remark> {
         let wanted: Vec<&str> = example.split(' ').collect();
-        let Some(item) = self.rest.next() else {
-            let words = format!(
-                "the text ends where {} is wanted, as in: {example}",
-                wanted[0]
-            );
-            return remark(self.end, words);
+        let item = match self.rest.next() {
+            Some(item) if item.is(wanted[0]) => item,
+            other => return self.wanted(wanted[0], other.as_ref(), example),
         };
-        if !item.is(wanted[0]) {
-            let read = visible(item.words[0]);
-            return remark(
-                item.line,
-                format!(
-                    "\"{read}\" stands where {} is wanted, as in: {example}",
-                    wanted[0]
-                ),
-            );
-        }
         if item.words.len() != wanted.len() {
             let [read, wanted_count] = [item.words.len() - 1, wanted.len() - 1];
             let words = format!(
@@ -325,6 +318,18 @@ impl<'a> Items<'a> {
             return remark(item.line, words);
         }
         Ok(item)
+    }
+
+    /// That something is wanted where another item stands, or none.
+    fn wanted<T>(&self, name: &str, found: Option<&Item>, example: &str) -> Result<T, Remark> {
+        let (line, found) = match found {
+            Some(item) => (item.line, format!("\"{}\" stands", visible(item.words[0]))),
+            None => (self.end, "the text ends".into()),
+        };
+        remark(
+            line,
+            format!("{found} where {name} is wanted, as in: {example}"),
+        )
     }
 
     /// Takes an item of one value.
