@@ -1,5 +1,5 @@
-/* Pokyandi: the stations of a road alignment from its packed sheet (document 01), the element under a station, its line in numbers, the
- * elements of one curve.
+/* Pokyandi: the stations of a road alignment from its packed sheet (document 01), the element under a station, its line in numbers, a line
+ * from the coordinates of its points, the elements of one curve.
  *
  * Link target/staticlib/libpokyandi.a, which `rt staticlib pokyandi` makes for Linux on x86-64. There is no state; any number of
  * threads may call at once. A call allocates nothing and takes at most POKYANDI_STACK_BYTES of stack.
@@ -10,8 +10,8 @@
  *
  * An answer holds two numbers of 32 bits:
  *   upper 0            done, the lower is the count of entries
- *   upper 1 to 17      refused, the upper is the refusal's number, the lower its place: the index of a distance (0 to n) for 8
- *                      and 15, the number of a curve (1 to n) for 9 to 14, else 0; of several refusals the first in document 01's order
+ *   upper 1 to 20      refused, the upper is the refusal's number, the lower its place: the index of a distance (0 to n) for 8
+ *                      and 15, the number of a curve (1 to n) for 9 to 14, 19 and 20, else 0; of several refusals the first in order
  */
 #ifndef POKYANDI_H
 #define POKYANDI_H
@@ -23,8 +23,8 @@
 extern "C" {
 #endif
 
-/* The version of this header, 0.3.0: major x 1,000,000 + minor x 1,000 + patch. A later library may have more refusals. */
-#define POKYANDI_VERSION 3000
+/* The version of this header, 0.4.0: major x 1,000,000 + minor x 1,000 + patch. A later library may have more refusals. */
+#define POKYANDI_VERSION 4000
 
 /* The version of the library that is linked. */
 uint64_t pokyandi_version(void);
@@ -36,7 +36,7 @@ enum pokyandi_reason {
     POKYANDI_DONE = 0, POKYANDI_TRUNCATED = 1, POKYANDI_EDITION = 2, POKYANDI_CURVE_COUNT = 3, POKYANDI_SPEED = 4, POKYANDI_CROSSFALL = 5,
     POKYANDI_START = 6, POKYANDI_TRAILING = 7, POKYANDI_DISTANCE = 8, POKYANDI_DEFLECTION = 9, POKYANDI_RADIUS = 10, POKYANDI_SPIRAL = 11,
     POKYANDI_LEAST_RADIUS = 12, POKYANDI_LEAST_SPIRAL = 13, POKYANDI_SHORT_ARC = 14, POKYANDI_SHORT_STRAIGHT = 15, POKYANDI_SMALL_BUFFER = 16,
-    POKYANDI_STATION = 17
+    POKYANDI_STATION = 17, POKYANDI_COORDINATE = 18, POKYANDI_NO_TURN = 19, POKYANDI_WIDE_TURN = 20
 };
 
 static inline uint32_t pokyandi_refusal(uint64_t answer) { return (uint32_t)(answer >> 32); }
@@ -49,7 +49,8 @@ static inline const char *pokyandi_words(uint32_t refusal) {
     case POKYANDI_DONE: return "not refused";
     case POKYANDI_TRUNCATED: return "under 7 bytes, or fewer than n curves need";
     case POKYANDI_EDITION: return "edition other than 1";
-    case POKYANDI_CURVE_COUNT: return "over 64 curves, or a line of other than 5 + 5 x n numbers";
+    case POKYANDI_CURVE_COUNT:
+        return "over 64 curves, fewer than 2 or over 66 points, or other than 5 + 5 x n numbers of a line, 2 of each point and PI";
     case POKYANDI_SPEED: return "design speed other than 40, 50, .. 120 km/h";
     case POKYANDI_CROSSFALL: return "crossfall outside 2 to 12 percent";
     case POKYANDI_START: return "start over 200,000,000 mm";
@@ -64,13 +65,18 @@ static inline const char *pokyandi_words(uint32_t refusal) {
     case POKYANDI_SHORT_STRAIGHT: return "straight under 1 mm";
     case POKYANDI_SMALL_BUFFER: return "buffer too small for the answer";
     case POKYANDI_STATION: return "station below the start of the line or beyond its end";
+    case POKYANDI_COORDINATE: return "coordinate beyond 10,000,000 mm either way";
+    case POKYANDI_NO_TURN: return "no turn of a second at the PI; leave the point out";
+    case POKYANDI_WIDE_TURN: return "turn over 216,000 seconds (60 degrees) at the PI";
     default: return "unknown refusal";
     }
 }
 
-/* Entries that are enough for every sheet and curve. */
+/* Entries that are enough for every sheet, line, list of points and curve. */
 #define POKYANDI_SHEET_BYTES 706
 #define POKYANDI_LINE_NUMBERS 325
+#define POKYANDI_POINT_NUMBERS 132
+#define POKYANDI_CURVE_NUMBERS 128
 #define POKYANDI_ROW_NUMBERS 257
 #define POKYANDI_TEXT_BYTES 5417
 #define POKYANDI_PEG_NUMBERS 5
@@ -121,6 +127,13 @@ uint64_t pokyandi_write(const uint32_t *line, size_t line_numbers, uint8_t *byte
 
 /* The sheet read and written again, which are the same bytes. Count: its bytes. Refusals: 1 to 11, then 16. */
 uint64_t pokyandi_rewrite(const uint8_t *sheet, size_t sheet_bytes, uint8_t *bytes, size_t bytes_room);
+
+/* The line through points: east and north of the start, of each PI and of the end in turn; radius and spiral of each PI in turn; all in mm.
+ * Speed, crossfall and start are those of a line. Distances are rounded down to the mm, deflections to the second. Count: 5 + 5 x n.
+ * Refusals: 3 for an odd count of point numbers or other than two curve numbers for each PI; 3 for fewer than 2 or more than 66 points; 18;
+ * 8 of each distance; point by point 20 and 19; 4 to 6, 10 to 15 of the line so made; then 16. */
+uint64_t pokyandi_from_points(uint32_t speed, uint32_t crossfall, uint32_t start, const int64_t *points, size_t point_numbers,
+                              const uint32_t *curves, size_t curve_numbers, uint32_t *line, size_t line_numbers);
 
 #ifdef __cplusplus
 }

@@ -5,7 +5,8 @@ use crate::bits::fields_of;
 use crate::field::Field;
 use crate::limits;
 use crate::line::{Curve, Line};
-use crate::quantity::{degrees, metres_of_mm, metres_of_um};
+use crate::quantity::{degrees, metres_of_mm, metres_of_signed_mm, metres_of_um};
+use crate::survey::{self, Survey, AXES};
 use pokyandi::{element, Reason, Refusal, SHEET_BYTES};
 
 /// Why a sheet is refused, in one sentence.
@@ -24,7 +25,7 @@ pub fn of_line(line: &Line, refusal: Refusal) -> String {
     let place = refusal.place as usize;
     let curve = || line.curve(place);
     let found = match refusal.reason {
-        Reason::CurveCount => curve_count(line),
+        Reason::CurveCount => too_many(line.curve_count()),
         Reason::Speed => Field::Speed.missed(line.speed()),
         Reason::Crossfall => Field::Crossfall.missed(line.crossfall()),
         Reason::Start => Field::Start.missed(line.start()),
@@ -37,6 +38,20 @@ pub fn of_line(line: &Line, refusal: Refusal) -> String {
         Reason::ShortArc => short_arc(line, curve()),
         Reason::ShortStraight => short_straight(line, place),
         other => other.words().to_string(),
+    };
+    headed(refusal, found)
+}
+
+/// Why a line by its points is refused, in one sentence.
+pub fn of_points(survey: &Survey, refusal: Refusal) -> String {
+    let place = refusal.place as usize;
+    let found = match refusal.reason {
+        Reason::CurveCount => too_many(survey.curves.len()),
+        Reason::Coordinate => far_coordinate(survey),
+        Reason::Distance => far_or_same(survey.sketch().distance(place)),
+        Reason::NoTurn => NO_TURN.into(),
+        Reason::WideTurn => wide_turn(survey.sketch().curve(place)),
+        _ => return of_line(&survey.sketch(), refusal),
     };
     headed(refusal, found)
 }
@@ -68,7 +83,7 @@ fn bytes(sheet: &[u8], line: &Line) -> String {
         found if found < fewest => format!("the sheet has {size}; the shortest has {fewest}"),
         _ => format!(
             "the sheet has {size}; with {} it takes {needed}",
-            curves(line)
+            counted(line.curve_count(), "curve")
         ),
     }
 }
@@ -88,20 +103,49 @@ fn other_edition(sheet: &[u8], edition: u64) -> String {
     )
 }
 
-fn curves(line: &Line) -> String {
-    counted(line.curve_count(), "curve")
-}
-
 /// `1 curve`, `2 curves`
 pub fn counted(count: usize, name: &str) -> String {
     format!("{count} {name}{}", if count == 1 { "" } else { "s" })
 }
 
-fn curve_count(line: &Line) -> String {
+fn too_many(curves: usize) -> String {
+    let most = limits::most_curves();
+    let curves = counted(curves, "curve");
+    format!("the line has {curves}; it may have {most} at most")
+}
+
+fn far_coordinate(survey: &Survey) -> String {
+    let Some((point, axis)) = survey.far_coordinate() else {
+        return Reason::Coordinate.words().into();
+    };
+    let found = metres_of_signed_mm(survey.points[point][axis]);
+    let (name, range) = (AXES[axis], survey::range());
     format!(
-        "the line has {}; it may have {} at most",
-        curves(line),
-        limits::most_curves()
+        "{name} is {found}; it may be {range}: count from a nearer origin, \
+         that is, take the same length off {name} of every point"
+    )
+}
+
+/// A distance to the next point that is out of range.
+fn far_or_same(distance: u64) -> String {
+    let hint = match distance {
+        0 => "is a point written twice?",
+        _ => "divide the line",
+    };
+    let missed = Field::Distance.missed(distance);
+    format!("to the next point {missed}; {hint}")
+}
+
+const NO_TURN: &str = "the line does not turn here by a second: this point lies in one line \
+                       with the points before and after it; leave it out";
+
+fn wide_turn(curve: Curve) -> String {
+    let most = limits::widest_turn();
+    let found = degrees(curve.deflection.max(most + 1));
+    let (side, most) = (curve.side(), degrees(most));
+    format!(
+        "the line turns {side} by {found}; it may turn by {most} at most: \
+         set a further PI between, so that two curves share the turn"
     )
 }
 

@@ -29,7 +29,7 @@ stations   the stations of TS, SC, CS and ST of every curve, and of the end
 pegs       a list for the crew: the element under every 20 m and every point
 elements   X, Y, k, p, D and TT of every curve, and the straights
 check      a line for each sheet: fine, or why it is refused, with the limit missed
-make       the sheet of a plain text
+make       the sheet of a plain text, with distances and deflections or with points
 show       the text of a sheet
 
 The name - stands for standard input; as the SHEET of make, for standard output.
@@ -181,17 +181,39 @@ written in one of these forms:
     49d22m44s  49°22'44\"     degrees, minutes and seconds
     49.5d                    degrees
 
+In place of distances and curves a text may have the points of the line as a survey
+gives them, each by its east and its north from one origin: the start, every PI with
+its radius and spiral behind, and the end.
+
+    point -120.250m 85m
+    point 90100 259120 120m 40m
+    point 332.230m 241.755m 100m 40m
+    point +528m 408.9m
+
+A coordinate is a length that may have a sign, up to 10000 m either way. The
+distances and deflections that are found, rounded down to the mm and the second, are
+told on standard error, at the point where the distance begins: compare them with
+the field book. A line turns by 60 degrees at most at a point.
+
 Speed is in km/h; crossfall, the greatest superelevation e, in percent. What is
 finer than a mm or a second is an error, as are decimals without a unit. # begins a
 comment; blank lines, tabs, a byte order mark and CRLF are taken.
 
 The sheet is written beside the old one, read back and renamed: after an error the
-old one is as it was. Where the stations of the line are refused the sheet is made
-all the same, for the exchange; words say why, and the exit status is 1. A value
-that is probably in the wrong unit gets a warning.
+old one is as it was. Where the stations of the line are refused, words say why, and
+the exit status is 1; of distances and curves the sheet is made all the same, for
+the exchange, of points none is made. A value that is probably in the wrong unit
+gets a warning.
 
     $ pokyandi make samples/line.txt /tmp/line.sheet
     /tmp/line.sheet: written, 21 bytes, 1 curve
+    $ pokyandi make samples/ridge.txt /tmp/ridge.sheet
+    samples/ridge.txt:9: distance 0: 273.065 m
+    samples/ridge.txt:10: curve 1: right 43°43'07\"
+    samples/ridge.txt:10: distance 1: 242.751 m
+    samples/ridge.txt:11: curve 2: left 44°35'31\"
+    samples/ridge.txt:11: distance 2: 257.416 m
+    /tmp/ridge.sheet: written, 32 bytes, 2 curves
 ";
 
 pub const SHOW: &str = "\

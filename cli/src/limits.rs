@@ -2,6 +2,7 @@
 //! does not refuse. No range, table or formula is written down here.
 
 use crate::line::{example, Curve, Line};
+use crate::survey::Survey;
 use pokyandi::line::{curve, CROSSFALL, CURVES, SPEED};
 use pokyandi::{element, Reason, Refusal};
 use std::ops::RangeInclusive;
@@ -208,6 +209,40 @@ pub fn least_distance(line: &Line, i: usize) -> Option<u64> {
     })
 }
 
+/// The example's line by these points, its curve simple at each PI.
+fn example_through(points: &[[i64; 2]]) -> Result<Line, Refusal> {
+    let example = example();
+    let pis = points.len() - 2;
+    let survey = Survey {
+        speed: example.speed(),
+        crossfall: example.crossfall(),
+        start: example.start(),
+        points: points.to_vec(),
+        curves: vec![[example.curve(1).radius, 0]; pis],
+    };
+    survey.line()
+}
+
+/// How far from the origin a coordinate may lie, mm.
+pub fn greatest_coordinate() -> u64 {
+    let serves = |east| {
+        let line = example_through(&[[0, 0], [east as i64, 0]]);
+        !is_refused(line, Reason::Coordinate)
+    };
+    greatest(0..=MOST, serves).expect("a point may be the origin")
+}
+
+/// The widest turn at a PI, seconds.
+pub fn widest_turn() -> u64 {
+    const EAST: i64 = 5_000_000;
+    // It goes east, and turns the more to the north.
+    let line = |north| example_through(&[[-EAST, 0], [0, 0], [EAST, north as i64]]);
+    let serves = |north| !is_refused(line(north), Reason::WideTurn);
+    let widest = greatest(0..=greatest_coordinate(), serves).map(line);
+    let widest = widest.and_then(Result::ok);
+    widest.expect("a line may turn").curve(1).deflection
+}
+
 #[cfg(test)]
 mod tests {
     use super::*;
@@ -226,6 +261,12 @@ mod tests {
         assert_eq!(greatest_spiral(350_000), 350_000);
         assert_eq!(greatest_spiral(5_000_000), 500_000);
         assert_eq!(most_curves(), 64);
+    }
+
+    #[test]
+    fn the_ranges_of_points() {
+        assert_eq!(greatest_coordinate(), 10_000_000);
+        assert_eq!(widest_turn(), 216_000);
     }
 
     #[test]

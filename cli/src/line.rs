@@ -25,8 +25,13 @@ impl Line {
     pub fn of_sheet(sheet: &[u8]) -> Result<Line, Refusal> {
         let mut numbers = [0; LINE_NUMBERS];
         let count = pokyandi::read(sheet, &mut numbers)?;
-        let numbers = numbers[..count].iter().copied().map(u64::from).collect();
-        Ok(Line { numbers })
+        Ok(Line::of_numbers(&numbers[..count]))
+    }
+
+    /// The line that the library answers in these numbers.
+    pub fn of_numbers(numbers: &[u32]) -> Line {
+        let numbers = numbers.iter().copied().map(u64::from).collect();
+        Line { numbers }
     }
 
     /// The sheet of the line, or the first of refusals 3 to 6 and 8 to 11.
@@ -83,6 +88,13 @@ impl Line {
 }
 
 impl Curve {
+    pub fn side(self) -> &'static str {
+        match self.left {
+            true => "left",
+            false => "right",
+        }
+    }
+
     /// X, Y, k, p, D and TT in µm, or the first of refusals 9, 10, 11 and 14.
     pub fn elements(self) -> Result<[u64; ELEMENT_NUMBERS], Refusal> {
         let mut numbers = [0; ELEMENT_NUMBERS];
@@ -94,7 +106,7 @@ impl Curve {
 
 /// A number as the library takes it. One that does not fit 32 bits becomes their
 /// greatest, which is outside of every range.
-fn library_number(number: u64) -> u32 {
+pub fn library_number(number: u64) -> u32 {
     u32::try_from(number).unwrap_or(u32::MAX)
 }
 

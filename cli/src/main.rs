@@ -1,6 +1,7 @@
 //! The command `pokyandi`, for people: it reads arguments, sheets and plain
-//! text, and prints. Stations, pegs and elements are numbers that a call of the
-//! proved library answered; a straight is the difference of two stations.
+//! text, and prints. Stations, pegs, elements and the lines of points are numbers
+//! that a call of the proved library answered; a straight is the difference of two
+//! stations.
 
 mod arguments;
 mod bits;
@@ -14,6 +15,7 @@ mod help;
 mod limits;
 mod line;
 mod quantity;
+mod survey;
 mod text;
 
 use arguments::Request;

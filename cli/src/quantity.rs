@@ -27,7 +27,21 @@ const ANGLE_FORMS: &str = "177764 (seconds), 49d22m44s, 49.5d or 49°22'44\"";
 
 /// A length in mm.
 pub fn length(word: &str) -> Result<Quantity, String> {
-    let (number, unit) = word.split_at(unit_begin(word));
+    length_in(word, word)
+}
+
+/// A length in mm that may have a sign.
+pub fn signed_length(word: &str) -> Result<i64, String> {
+    let minus = word.strip_prefix(['-', '−']);
+    let size = minus.or(word.strip_prefix('+')).unwrap_or(word);
+    let mm = i64::try_from(length_in(size, word)?.value);
+    let mm = mm.map_err(|_| length_fault(word, Fault::TooLarge))?;
+    Ok(if minus.is_some() { -mm } else { mm })
+}
+
+/// The length of a size, which is a word without its sign.
+fn length_in(size: &str, word: &str) -> Result<Quantity, String> {
+    let (number, unit) = size.split_at(unit_begin(size));
     let value = match unit {
         // Metres were probably meant, whatever the decimals are.
         "" if number.contains(['.', ',']) => units_in(number, MM_IN_M).and(Err(Fault::TooFine)),
@@ -213,6 +227,11 @@ pub fn metres_of_mm(mm: u64) -> String {
     format!("{} m", decimal(mm, 3))
 }
 
+/// mm in metres, which may be below zero: `-12.500 m`.
+pub fn metres_of_signed_mm(mm: i64) -> String {
+    format!("{} m", signed_decimal(mm, 3))
+}
+
 /// µm in metres, which may be below zero: `-0.000205 m`.
 pub fn metres_of_um(um: i64) -> String {
     format!("{} m", signed_metres(um))
@@ -220,8 +239,12 @@ pub fn metres_of_um(um: i64) -> String {
 
 /// The same without the unit: `-0.000205`.
 pub fn signed_metres(um: i64) -> String {
-    let sign = if um < 0 { "-" } else { "" };
-    format!("{sign}{}", decimal(um.unsigned_abs(), 6))
+    signed_decimal(um, 6)
+}
+
+fn signed_decimal(units: i64, decimals: usize) -> String {
+    let sign = if units < 0 { "-" } else { "" };
+    format!("{sign}{}", decimal(units.unsigned_abs(), decimals))
 }
 
 /// Seconds in degrees: `49°22'44"`.
@@ -314,6 +337,32 @@ mod tests {
     }
 
     #[test]
+    fn lengths_with_a_sign() {
+        let cases = [
+            ("-12.5m", -12_500),
+            ("−12,5m", -12_500),
+            ("+3m", 3_000),
+            ("-0", 0),
+            ("-12+340.5km", -12_340_500),
+            ("+617+0.00e", 12_340_000),
+            ("310500", 310_500),
+        ];
+        for (word, mm) in cases {
+            assert_eq!(signed_length(word), Ok(mm), "{word}");
+        }
+        let words = "-12.5 without a unit is in mm and must be whole: for metres write -12.5m";
+        assert_eq!(signed_length("-12.5").unwrap_err(), words);
+        for word in ["", "-", "+m", "--5m", "+-5m", "- 5m", "5m-", "12+-340km"] {
+            assert!(signed_length(word).is_err(), "{word}");
+        }
+        let far = "-9223372036854775.808m";
+        assert_eq!(
+            signed_length(far).unwrap_err(),
+            format!("{far} is too large")
+        );
+    }
+
+    #[test]
     fn angles() {
         let cases = [
             ("177764", 177_764, false),
@@ -395,6 +444,7 @@ mod tests {
     fn printed() {
         assert_eq!(metres_of_mm(310_500), "310.500 m");
         assert_eq!(metres_of_um(-205), "-0.000205 m");
+        assert_eq!(metres_of_signed_mm(-12_500), "-12.500 m");
         assert_eq!(degrees(177_764), "49°22'44\"");
         assert_eq!(degrees(1), "0°00'01\"");
         assert_eq!(degrees_in_letters(177_764), "49d22m44s");

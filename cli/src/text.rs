@@ -9,26 +9,46 @@
 //! curve right 49d22m44s 350m 40m
 //! distance 400000
 //! ```
+//!
+//! In place of distances and curves it may have points, each by its east and north,
+//! with radius and spiral at a PI.
+//!
+//! ```text
+//! point 0m 500.000m
+//! point 0m 0m 350m 40m
+//! point -303607 -260425
+//! ```
 
 use crate::explain::{self, counted};
 use crate::field::Field;
 use crate::files::visible;
 use crate::limits;
 use crate::line::Line;
-use crate::quantity::Quantity;
+use crate::quantity::{degrees, metres_of_mm, signed_length, Quantity};
+use crate::survey::{self, Survey, AXES};
 use pokyandi::{Reason, Refusal};
 use std::str;
 
 /// How a distance is written, for messages.
 const DISTANCE: &str = "distance 310.5m";
+/// How the ends of a line and a PI are written as points.
+const END: &str = "point -120.5m 85m";
+const PI: &str = "point 90.1m 259m 120m 40m";
 
 /// A line read from a text, with what its text says of it.
 #[derive(Debug, PartialEq, Eq)]
 pub struct Text {
-    pub line: Line,
+    content: Content,
     places: Places,
     /// Values that are probably in the wrong unit.
     pub warnings: Vec<Remark>,
+}
+
+/// How a text describes its line.
+#[derive(Debug, PartialEq, Eq)]
+enum Content {
+    Line(Line),
+    Points(Survey),
 }
 
 /// Something about a line of the text, counted from 1.
@@ -38,14 +58,23 @@ pub struct Remark {
     pub words: String,
 }
 
+impl Remark {
+    /// The same with a further sentence.
+    fn and(self, sentence: &str) -> Remark {
+        let words = format!("{}; {sentence}", self.words);
+        Remark { words, ..self }
+    }
+}
+
 /// The items of a text: the number of its line, and the words there.
-#[derive(Debug, PartialEq, Eq)]
+#[derive(Clone, Debug, PartialEq, Eq)]
 struct Place {
     line: usize,
     written: String,
 }
 
-/// Where the fields of the line stand.
+/// Where the fields of the line stand. In a text with points the distances stand at
+/// the points where they begin; the last point is the place of none, but listed.
 #[derive(Debug, PartialEq, Eq)]
 struct Places {
     speed: Place,
@@ -62,18 +91,11 @@ impl Text {
         let (speed, speed_place) = items.take_value(Field::Speed, "speed 70")?;
         let (crossfall, crossfall_place) = items.take_value(Field::Crossfall, "crossfall 8")?;
         let (start, start_place) = items.take_value(Field::Start, "start 12+340.5km")?;
-        let (distance, distance_place) = items.take_value(Field::Distance, DISTANCE)?;
-        let mut numbers = vec![0, speed, crossfall, start, distance];
-        let (mut distances, mut curves) = (vec![distance_place], Vec::new());
-        while items.rest.len() > 0 {
-            let (curve, place) = items.take_curve()?;
-            numbers.extend(curve);
-            curves.push(place);
-            let (distance, place) = items.take_value(Field::Distance, DISTANCE)?;
-            numbers.push(distance);
-            distances.push(place);
-        }
-        numbers[pokyandi::line::CURVES] = curves.len() as u64;
+        let head = [speed, crossfall, start];
+        let (content, distances, curves) = match items.are_points()? {
+            true => items.take_points(head)?,
+            false => items.take_line(head)?,
+        };
         let places = Places {
             speed: speed_place,
             crossfall: crossfall_place,
@@ -82,10 +104,46 @@ impl Text {
             curves,
         };
         Ok(Text {
-            line: Line { numbers },
+            content,
             places,
             warnings: items.doubts,
         })
+    }
+
+    /// The line; of points the one that the library makes, or the first refusal.
+    pub fn line(&self) -> Result<Line, Refusal> {
+        match &self.content {
+            Content::Line(line) => Ok(line.clone()),
+            Content::Points(survey) => survey.line(),
+        }
+    }
+
+    /// The distances and deflections that were made of points, where they arise in
+    /// the text.
+    pub fn found(&self, line: &Line) -> Vec<Remark> {
+        if let Content::Line(_) = self.content {
+            return Vec::new();
+        }
+        let mut found = Vec::new();
+        for i in 0..=line.curve_count() {
+            let place = self.places.distances[i].line;
+            let mut say = |words| found.push(Remark { line: place, words });
+            if i > 0 {
+                let curve = line.curve(i);
+                let (side, angle) = (curve.side(), degrees(curve.deflection));
+                say(format!("curve {i}: {side} {angle}"));
+            }
+            say(format!("distance {i}: {}", metres_of_mm(line.distance(i))));
+        }
+        found
+    }
+
+    /// The place of a point with a coordinate out of range.
+    fn far_point(&self) -> Option<&Place> {
+        match &self.content {
+            Content::Line(_) => None,
+            Content::Points(survey) => self.places.distances.get(survey.far_coordinate()?.0),
+        }
     }
 
     /// A refusal of the line in words, where it arises in the text.
@@ -99,6 +157,7 @@ impl Text {
         } = &self.places;
         let place = refusal.place as usize;
         let Place { line, written } = match refusal.reason {
+            Reason::Coordinate => self.far_point().unwrap_or(speed),
             Reason::CurveCount => curves.get(limits::most_curves() as usize).unwrap_or(speed),
             Reason::Speed => speed,
             Reason::Crossfall => crossfall,
@@ -106,7 +165,10 @@ impl Text {
             Reason::Distance | Reason::ShortStraight => distances.get(place).unwrap_or(speed),
             _ => curves.get(place.wrapping_sub(1)).unwrap_or(speed),
         };
-        let words = explain::of_line(&self.line, refusal);
+        let words = match &self.content {
+            Content::Line(line) => explain::of_line(line, refusal),
+            Content::Points(survey) => explain::of_points(survey, refusal),
+        };
         let words = format!("{}: {words}", visible(written));
         Remark { line: *line, words }
     }
@@ -167,27 +229,85 @@ impl<'a> Items<'a> {
         })
     }
 
+    /// Whether points are to be taken; a text has no distances or curves then.
+    fn are_points(&self) -> Result<bool, Remark> {
+        let items = self.rest.as_slice();
+        let are_points = match items.first() {
+            Some(item) if item.is("point") => true,
+            Some(item) if item.is("distance") => false,
+            other => {
+                let example = format!("{DISTANCE}, or: {END}");
+                return self.wanted("distance or point", other, &example);
+            }
+        };
+        let is_other = |item: &&Item| match are_points {
+            true => item.is("distance") || item.is("curve"),
+            false => item.is("point"),
+        };
+        match items.iter().find(is_other) {
+            None => Ok(are_points),
+            Some(Item { line, words }) => {
+                let kind = words[0].to_ascii_lowercase();
+                let words = format!(
+                    "{kind} in a text with {}: a line has either points, or distances and curves",
+                    if are_points { "points" } else { "distances" }
+                );
+                remark(*line, words)
+            }
+        }
+    }
+
+    /// Takes distances and curves: the line, and the places of both.
+    fn take_line(&mut self, head: [u64; 3]) -> Result<(Content, Vec<Place>, Vec<Place>), Remark> {
+        let [speed, crossfall, start] = head;
+        let (distance, place) = self.take_value(Field::Distance, DISTANCE)?;
+        let mut numbers = vec![0, speed, crossfall, start, distance];
+        let (mut distances, mut curves) = (vec![place], Vec::new());
+        while self.rest.len() > 0 {
+            let (curve, place) = self.take_curve()?;
+            numbers.extend(curve);
+            curves.push(place);
+            let (distance, place) = self.take_value(Field::Distance, DISTANCE)?;
+            numbers.push(distance);
+            distances.push(place);
+        }
+        numbers[pokyandi::line::CURVES] = curves.len() as u64;
+        Ok((Content::Line(Line { numbers }), distances, curves))
+    }
+
+    /// Takes points: what they say, and the places of distances and curves.
+    fn take_points(&mut self, head: [u64; 3]) -> Result<(Content, Vec<Place>, Vec<Place>), Remark> {
+        let [speed, crossfall, start] = head;
+        let (point, place) = self.take_end()?;
+        let (mut points, mut curves, mut places) = (vec![point], Vec::new(), vec![place]);
+        while self.rest.len() > 1 {
+            let (point, curve, place) = self.take_pi()?;
+            points.push(point);
+            curves.push(curve);
+            places.push(place);
+        }
+        let pis = places[1..].to_vec();
+        let (point, place) = self.take_end()?;
+        points.push(point);
+        places.push(place);
+        let survey = Survey {
+            speed,
+            crossfall,
+            start,
+            points,
+            curves,
+        };
+        Ok((Content::Points(survey), places, pis))
+    }
+
     /// Takes the next item, which has the form of this example: the word that it
     /// begins with, and as many values.
     fn take(&mut self, example: &str) -> Result<Item<'a>, Remark> {
         let wanted: Vec<&str> = example.split(' ').collect();
-        let Some(item) = self.rest.next() else {
-            let words = format!(
-                "the text ends where {} is wanted, as in: {example}",
-                wanted[0]
-            );
-            return remark(self.end, words);
+        let item = match self.rest.next() {
+            Some(item) if item.is(wanted[0]) => item,
+            other => return self.wanted(wanted[0], other.as_ref(), example),
         };
-        if !item.words[0].eq_ignore_ascii_case(wanted[0]) {
-            let read = visible(item.words[0]);
-            return remark(
-                item.line,
-                format!(
-                    "\"{read}\" stands where {} is wanted, as in: {example}",
-                    wanted[0]
-                ),
-            );
-        }
         if item.words.len() != wanted.len() {
             let [read, wanted_count] = [item.words.len() - 1, wanted.len() - 1];
             let words = format!(
@@ -198,6 +318,18 @@ impl<'a> Items<'a> {
             return remark(item.line, words);
         }
         Ok(item)
+    }
+
+    /// That something is wanted where another item stands, or none.
+    fn wanted<T>(&self, name: &str, found: Option<&Item>, example: &str) -> Result<T, Remark> {
+        let (line, found) = match found {
+            Some(item) => (item.line, format!("\"{}\" stands", visible(item.words[0]))),
+            None => (self.end, "the text ends".into()),
+        };
+        remark(
+            line,
+            format!("{found} where {name} is wanted, as in: {example}"),
+        )
     }
 
     /// Takes an item of one value.
@@ -216,6 +348,25 @@ impl<'a> Items<'a> {
         Ok(([side, deflection, radius, spiral], item.place()))
     }
 
+    /// Takes the first or the last point: its coordinates.
+    fn take_end(&mut self) -> Result<([i64; 2], Place), Remark> {
+        let item = self.take(END).map_err(|remark| {
+            remark.and("the first and the last point have neither radius nor spiral")
+        })?;
+        Ok((item.coordinates()?, item.place()))
+    }
+
+    /// Takes a PI: its coordinates, its radius and spiral.
+    fn take_pi(&mut self) -> Result<([i64; 2], [u64; 2], Place), Remark> {
+        let item = self.take(PI).map_err(|remark| {
+            remark.and("each point between the first and the last has radius and spiral")
+        })?;
+        let coordinates = item.coordinates()?;
+        let radius = self.value(&item, 3, Field::Radius)?;
+        let spiral = self.value(&item, 4, Field::Spiral)?;
+        Ok((coordinates, [radius, spiral], item.place()))
+    }
+
     /// The value of a field, at this word of an item; a doubt about it is kept.
     fn value(&mut self, item: &Item, word: usize, field: Field) -> Result<u64, Remark> {
         let quantity = field.read(item.words[word]).map_err(|words| Remark {
@@ -228,11 +379,29 @@ impl<'a> Items<'a> {
 }
 
 impl Item<'_> {
+    /// Whether it begins with this word.
+    fn is(&self, word: &str) -> bool {
+        self.words[0].eq_ignore_ascii_case(word)
+    }
+
     fn place(&self) -> Place {
         Place {
             line: self.line,
             written: self.words.join(" "),
         }
+    }
+
+    /// East and north of a point.
+    fn coordinates(&self) -> Result<[i64; 2], Remark> {
+        let mut coordinates = [0; 2];
+        for (i, axis) in AXES.into_iter().enumerate() {
+            let told = |fault| Remark {
+                line: self.line,
+                words: visible(&format!("{axis}: {fault}; it may be {}", survey::range())),
+            };
+            coordinates[i] = signed_length(self.words[i + 1]).map_err(told)?;
+        }
+        Ok(coordinates)
     }
 
     fn side(&self) -> Result<u64, Remark> {

@@ -6,6 +6,8 @@
 /* Document 01's case 9: speed 70, crossfall 8, start 0, no curve, a distance of 500 m. */
 static const uint8_t SHEET[] = {0x10, 0x11, 0xA0, 0x00, 0x00, 0x00, 0x00, 0xF4, 0x24, 0x00};
 static const uint32_t LINE[] = {0, 70, 8, 0, 500000};
+static const int64_t POINTS[] = {0, 0, 300000, 400000};
+#define POINT_NUMBERS (sizeof POINTS / sizeof *POINTS)
 
 static int wrong(const char *call, uint64_t answer, uint32_t refusal) {
     if (pokyandi_refusal(answer) == refusal && pokyandi_place(answer) == 0) {
@@ -31,5 +33,7 @@ int main(void) {
     faults += wrong("elements into nothing", pokyandi_elements(177764, 350000, 40000, NULL, 0), POKYANDI_SMALL_BUFFER);
     faults += wrong("read into nothing", pokyandi_read(SHEET, sizeof SHEET, NULL, 0), POKYANDI_SMALL_BUFFER);
     faults += wrong("write into nothing", pokyandi_write(LINE, sizeof LINE / sizeof *LINE, NULL, 0), POKYANDI_SMALL_BUFFER);
+    faults += wrong("line of no points", pokyandi_from_points(70, 8, 0, NULL, 0, NULL, 0, NULL, 0), POKYANDI_CURVE_COUNT);
+    faults += wrong("line into nothing", pokyandi_from_points(70, 8, 0, POINTS, POINT_NUMBERS, NULL, 0, NULL, 0), POKYANDI_SMALL_BUFFER);
     return faults != 0;
 }

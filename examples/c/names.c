@@ -1,4 +1,4 @@
-/* Prints every name of the header that the Rust crate has too, with its number, and the words of refusals 0 to 20.
+/* Prints every name of the header that the Rust crate has too, with its number, and the words of refusals 0 to 22.
  * bindings/rust/examples/names.rs prints the same from the crate. */
 #include "pokyandi.h"
 
@@ -14,6 +14,8 @@ static void show_sizes(void) {
     SHOW(STACK_BYTES);
     SHOW(SHEET_BYTES);
     SHOW(LINE_NUMBERS);
+    SHOW(POINT_NUMBERS);
+    SHOW(CURVE_NUMBERS);
     SHOW(ROW_NUMBERS);
     SHOW(TEXT_BYTES);
     SHOW(PEG_NUMBERS);
@@ -71,7 +73,10 @@ static void show_refusals(void) {
     SHOW(SHORT_STRAIGHT);
     SHOW(SMALL_BUFFER);
     SHOW(STATION);
-    for (uint32_t number = 0; number <= 20; number++) {
+    SHOW(COORDINATE);
+    SHOW(NO_TURN);
+    SHOW(WIDE_TURN);
+    for (uint32_t number = 0; number <= 22; number++) {
         printf("%" PRIu32 ": %s\n", number, pokyandi_words(number));
     }
 }

@@ -1,7 +1,9 @@
 /* Measures how much stack a call takes: it is made on a stack filled with a pattern, with the sheet of each file, or with a line of 64
- * curves, into no room and into enough. No call is made before, so that what the dynamic linker takes when memcpy is first used counts too.
+ * curves or its points, into no room and into enough. No call is made before, so that what the dynamic linker takes when memcpy is first
+ * used counts too.
  *
- *     stack CALL FILE..     CALL is stations, check, text, peg, elements, read, write, rewrite or version
+ *     stack CALL FILE..     CALL is stations, check, text, peg, elements, read, write, rewrite,
+ *                          from_points or version
  *
  * Prints the most bytes. Exit status: 0 they are at most POKYANDI_STACK_BYTES, 1 they are more, 2 a call or file is none.
  */
@@ -29,12 +31,15 @@ static uint64_t answer;
 static uint8_t sheet[MOST_READ];
 static size_t sheet_bytes;
 static uint32_t line[POKYANDI_LINE_NUMBERS];
+static int64_t points[POKYANDI_POINT_NUMBERS];
+static uint32_t curves[POKYANDI_CURVE_NUMBERS];
 static uint64_t row[POKYANDI_ROW_NUMBERS];
 static int64_t peg[POKYANDI_PEG_NUMBERS];
 static uint8_t bytes[POKYANDI_TEXT_BYTES];
 
-enum { STATIONS, CHECK, TEXT, PEG, ELEMENTS, READ, WRITE, REWRITE, VERSION, CALLS };
-static const char *const NAMES[CALLS] = {"stations", "check", "text", "peg", "elements", "read", "write", "rewrite", "version"};
+enum { STATIONS, CHECK, TEXT, PEG, ELEMENTS, READ, WRITE, REWRITE, FROM_POINTS, VERSION, CALLS };
+static const char *const NAMES[CALLS] = {"stations", "check", "text",    "peg",         "elements",
+                                         "read",     "write", "rewrite", "from_points", "version"};
 
 static uint64_t make_call(void) {
     switch (call) {
@@ -46,6 +51,9 @@ static uint64_t make_call(void) {
     case READ: return pokyandi_read(sheet, sheet_bytes, line, roomy ? POKYANDI_LINE_NUMBERS : 0);
     case WRITE: return pokyandi_write(line, POKYANDI_LINE_NUMBERS, bytes, roomy ? POKYANDI_SHEET_BYTES : 0);
     case REWRITE: return pokyandi_rewrite(sheet, sheet_bytes, bytes, roomy ? POKYANDI_SHEET_BYTES : 0);
+    case FROM_POINTS:
+        return pokyandi_from_points(40, 8, 0, points, POKYANDI_POINT_NUMBERS, curves, POKYANDI_CURVE_NUMBERS, line,
+                                    roomy ? POKYANDI_LINE_NUMBERS : 0);
     default: return pokyandi_version();
     }
 }
@@ -87,6 +95,18 @@ static void make_line(void) {
     }
 }
 
+/* Points of 64 curves that turn left and right by 23 degrees, 296 m apart. */
+static void make_points(void) {
+    for (size_t i = 0; i < POKYANDI_POINT_NUMBERS; i += 2) {
+        points[i] = 145000 * (int64_t)i - 9500000;
+        points[i + 1] = i % 4 ? 60000 : 0;
+    }
+    for (size_t i = 0; i < POKYANDI_CURVE_NUMBERS; i += 2) {
+        curves[i] = 120000;
+        curves[i + 1] = 40000;
+    }
+}
+
 /* The call of this name, or CALLS. */
 static int call_named(const char *name) {
     int found = 0;
@@ -103,6 +123,7 @@ int main(int argc, char **argv) {
         return 2;
     }
     make_line();
+    make_points();
     size_t most = 0;
     for (int i = 2; i < argc; i++) {
         int size = take_sheet("stack", argv[i], sheet);

@@ -1,5 +1,5 @@
 //! Prints every name of the crate that the C header has too, with its number,
-//! and the words of refusals 0 to 20. `examples/c/names.c` prints the same from
+//! and the words of refusals 0 to 22. `examples/c/names.c` prints the same from
 //! the header.
 
 use pokyandi::{curve, element, line, peg, Reason};
@@ -21,6 +21,8 @@ fn show_sizes() {
         ("STACK_BYTES", pokyandi::STACK_BYTES),
         ("SHEET_BYTES", pokyandi::SHEET_BYTES),
         ("LINE_NUMBERS", pokyandi::LINE_NUMBERS),
+        ("POINT_NUMBERS", pokyandi::POINT_NUMBERS),
+        ("CURVE_NUMBERS", pokyandi::CURVE_NUMBERS),
         ("ROW_NUMBERS", pokyandi::ROW_NUMBERS),
         ("TEXT_BYTES", pokyandi::TEXT_BYTES),
         ("PEG_NUMBERS", pokyandi::PEG_NUMBERS),
@@ -80,7 +82,7 @@ fn show_refusals() {
     for reason in Reason::ALL {
         show(&in_capitals(&format!("{reason:?}")), reason.number().into());
     }
-    for number in 0..=20 {
+    for number in 0..=22 {
         let words = Reason::of(number).map_or("not refused", Reason::words);
         println!("{number}: {words}");
     }

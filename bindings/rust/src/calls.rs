@@ -2,8 +2,8 @@
 
 use crate::refusal::{counted, Refusal};
 
-/// The version of this crate, 0.3.0: major × 1,000,000 + minor × 1,000 + patch.
-pub const VERSION: u64 = 3_000;
+/// The version of this crate, 0.4.0: major × 1,000,000 + minor × 1,000 + patch.
+pub const VERSION: u64 = 4_000;
 
 /// Bytes of stack that are enough for every call, with what the dynamic linker
 /// takes when a call first uses memcpy.
@@ -13,6 +13,10 @@ pub const STACK_BYTES: usize = 16_384;
 pub const SHEET_BYTES: usize = 706;
 /// Numbers of the longest line.
 pub const LINE_NUMBERS: usize = 325;
+/// Numbers of the most points, those of the longest line: east and north of each.
+pub const POINT_NUMBERS: usize = 132;
+/// Numbers of its PIs: radius and spiral of each.
+pub const CURVE_NUMBERS: usize = 128;
 /// Numbers of the longest row of stations.
 pub const ROW_NUMBERS: usize = 257;
 /// Bytes that are enough for the text of every sheet.
@@ -65,6 +69,17 @@ extern "C" {
         sheet_bytes: usize,
         bytes: *mut u8,
         bytes_room: usize,
+    ) -> u64;
+    fn pokyandi_from_points(
+        speed: u32,
+        crossfall: u32,
+        start: u32,
+        points: *const i64,
+        point_numbers: usize,
+        curves: *const u32,
+        curve_numbers: usize,
+        line: *mut u32,
+        line_numbers: usize,
     ) -> u64;
 }
 
@@ -154,6 +169,38 @@ pub fn rewrite(sheet: &[u8], bytes: &mut [u8]) -> Result<usize, Refusal> {
     // SAFETY: pointers and lengths are those of slices; the bytes are borrowed alone.
     counted(unsafe {
         pokyandi_rewrite(sheet.as_ptr(), sheet.len(), bytes.as_mut_ptr(), bytes.len())
+    })
+}
+
+/// The line through points, by the indexes of [`crate::line`] and
+/// [`crate::curve`]: 5 + 5 × n numbers. The points are east and north of the start,
+/// of each PI and of the end in turn, the curves radius and spiral of each PI in
+/// turn, all in mm. A distance is rounded down to the mm, a deflection to the
+/// second. Refusals: 3 for an odd count of point numbers or other than two curve
+/// numbers for each PI; 3 for fewer than 2 or more than 66 points; 18; 8 of each
+/// distance; point by point 20 and 19; 4 to 6, 10 to 15 of the line so made; then
+/// 16.
+pub fn from_points(
+    speed: u32,
+    crossfall: u32,
+    start: u32,
+    points: &[i64],
+    curves: &[u32],
+    line: &mut [u32],
+) -> Result<usize, Refusal> {
+    // SAFETY: pointers and lengths are those of slices; the line is borrowed alone.
+    counted(unsafe {
+        pokyandi_from_points(
+            speed,
+            crossfall,
+            start,
+            points.as_ptr(),
+            points.len(),
+            curves.as_ptr(),
+            curves.len(),
+            line.as_mut_ptr(),
+            line.len(),
+        )
     })
 }
 

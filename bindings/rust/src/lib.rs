@@ -22,6 +22,11 @@
 //! let count = pokyandi::read(&sheet, &mut line).unwrap();
 //! assert_eq!(line[..count], [0, 70, 8, 0, 500_000]);
 //!
+//! // The same line by the points of its start and its end.
+//! let points = [0, 0, 300_000, 400_000];
+//! let count = pokyandi::from_points(70, 8, 0, &points, &[], &mut line).unwrap();
+//! assert_eq!(line[..count], [0, 70, 8, 0, 500_000]);
+//!
 //! line[pokyandi::line::distance(0)] = 0;
 //! let refusal = pokyandi::write(&line[..count], &mut [0; 10]).unwrap_err();
 //! let words = "refused 8 at place 0: distance outside 1 to 20,000,000 mm";
@@ -32,8 +37,9 @@ mod calls;
 mod names;
 mod refusal;
 
-pub use calls::{check, elements, peg, read, rewrite, stations, text, version, write};
-pub use calls::{ELEMENT_NUMBERS, LINE_NUMBERS, PEG_NUMBERS, ROW_NUMBERS};
+pub use calls::{check, elements, from_points, peg, read, rewrite, stations, text, version, write};
+pub use calls::{CURVE_NUMBERS, ELEMENT_NUMBERS, LINE_NUMBERS, PEG_NUMBERS};
+pub use calls::{POINT_NUMBERS, ROW_NUMBERS};
 pub use calls::{SHEET_BYTES, TEXT_BYTES};
 pub use calls::{STACK_BYTES, VERSION};
 pub use names::{curve, element, line, peg};

@@ -1,4 +1,4 @@
-//! The refusals of document 01's table.
+//! The refusals of documents 01 and 02.
 
 use std::error::Error;
 use std::fmt;
@@ -9,11 +9,11 @@ pub struct Refusal {
     pub reason: Reason,
     /// The index of a distance (0 to n) for [`Reason::Distance`] and
     /// [`Reason::ShortStraight`], the number of a curve (1 to n) for the reasons
-    /// between them, else 0.
+    /// between them, [`Reason::NoTurn`] and [`Reason::WideTurn`], else 0.
     pub place: u32,
 }
 
-/// The reasons of document 01's table; a later library may have more.
+/// The reasons of documents 01 and 02; a later library may have more.
 #[derive(Clone, Copy, Debug, PartialEq, Eq)]
 #[non_exhaustive]
 pub enum Reason {
@@ -34,6 +34,9 @@ pub enum Reason {
     ShortStraight,
     SmallBuffer,
     Station,
+    Coordinate,
+    NoTurn,
+    WideTurn,
     /// A number that this crate does not know.
     Unknown(u32),
 }
@@ -58,6 +61,9 @@ impl Reason {
         Reason::ShortStraight,
         Reason::SmallBuffer,
         Reason::Station,
+        Reason::Coordinate,
+        Reason::NoTurn,
+        Reason::WideTurn,
     ];
 
     /// The reason with this number; 0 is none.
@@ -69,7 +75,7 @@ impl Reason {
         }
     }
 
-    /// The number in document 01's table, 1 to 17, or the unknown one.
+    /// The number in those documents, 1 to 20, or the unknown one.
     pub fn number(self) -> u32 {
         match self {
             Reason::Truncated => 1,
@@ -89,6 +95,9 @@ impl Reason {
             Reason::ShortStraight => 15,
             Reason::SmallBuffer => 16,
             Reason::Station => 17,
+            Reason::Coordinate => 18,
+            Reason::NoTurn => 19,
+            Reason::WideTurn => 20,
             Reason::Unknown(number) => number,
         }
     }
@@ -98,7 +107,10 @@ impl Reason {
         match self {
             Reason::Truncated => "under 7 bytes, or fewer than n curves need",
             Reason::Edition => "edition other than 1",
-            Reason::CurveCount => "over 64 curves, or a line of other than 5 + 5 x n numbers",
+            Reason::CurveCount => {
+                "over 64 curves, fewer than 2 or over 66 points, \
+                 or other than 5 + 5 x n numbers of a line, 2 of each point and PI"
+            }
             Reason::Speed => "design speed other than 40, 50, .. 120 km/h",
             Reason::Crossfall => "crossfall outside 2 to 12 percent",
             Reason::Start => "start over 200,000,000 mm",
@@ -115,6 +127,9 @@ impl Reason {
             Reason::ShortStraight => "straight under 1 mm",
             Reason::SmallBuffer => "buffer too small for the answer",
             Reason::Station => "station below the start of the line or beyond its end",
+            Reason::Coordinate => "coordinate beyond 10,000,000 mm either way",
+            Reason::NoTurn => "no turn of a second at the PI; leave the point out",
+            Reason::WideTurn => "turn over 216,000 seconds (60 degrees) at the PI",
             Reason::Unknown(_) => "unknown refusal",
         }
     }
@@ -172,7 +187,7 @@ mod tests {
 
     #[test]
     fn an_unknown_refusal_keeps_its_number() {
-        for number in [18, 20, u32::MAX] {
+        for number in [21, 22, u32::MAX] {
             let refusal = counted(u64::from(number) << 32 | 5).unwrap_err();
             assert_eq!(refusal.reason, Reason::Unknown(number));
             let words = format!("refused {number} at place 5: unknown refusal");

@@ -3,7 +3,7 @@
 //! order and type, results; none missing, none too many.
 //!
 //! A signature is written as Rust's declarations are. A slice of Rattle is a
-//! pointer of its name and a size whose name begins with it.
+//! pointer of its name and a size whose name begins with it, or with its singular.
 
 use std::collections::{BTreeMap, BTreeSet};
 use std::fs;
@@ -104,13 +104,13 @@ fn rust_type(c_type: &str) -> String {
     }
 }
 
-/// The parameters as text; a size that stands behind its pointer, and whose name
-/// begins with the pointer's, is called after that.
+/// The parameters as text; a size that stands behind its pointer is called after
+/// that.
 fn with_sizes(parameters: Vec<(String, String)>) -> Vec<String> {
-    let mut pointer = None;
+    let mut pointer: Option<String> = None;
     let mut texts = Vec::new();
     for (name, of_type) in parameters {
-        let of_pointer = pointer.filter(|pointer| name.starts_with(&format!("{pointer}_")));
+        let of_pointer = pointer.filter(|pointer| is_size_of(&name, pointer));
         texts.push(match &of_pointer {
             Some(pointer) if of_type == "usize" => format!("size of {pointer}"),
             _ => format!("{name}: {of_type}"),
@@ -118,6 +118,14 @@ fn with_sizes(parameters: Vec<(String, String)>) -> Vec<String> {
         pointer = of_type.starts_with('*').then_some(name);
     }
     texts
+}
+
+/// Whether a size has the name for this pointer: `sheet_bytes` for `sheet`,
+/// `point_numbers` for `points`.
+fn is_size_of(name: &str, pointer: &str) -> bool {
+    let singular = pointer.strip_suffix('s').unwrap_or(pointer);
+    let begins_with = |begin: &str| name.starts_with(&format!("{begin}_"));
+    begins_with(pointer) || begins_with(singular)
 }
 
 /// The text without what stands from `begin` to `end`.
@@ -222,6 +230,7 @@ pub extern "C" fn pokyandi_curve(
     spiral: u32,
     line: &[u32],
 ) -> u64 { 0 }
+pub extern "C" fn pokyandi_legs(points: &[i64]) -> u64 { 0 }
 pub extern "C" fn pokyandi_none() -> u64 { 0 }
 "#;
 
@@ -236,6 +245,7 @@ static inline uint32_t pokyandi_count(uint64_t answer) { return (uint32_t)answer
 uint64_t pokyandi_fill(const uint8_t *sheet, size_t sheet_bytes, uint64_t *row, size_t row_numbers);
 uint64_t pokyandi_curve(uint32_t radius, uint32_t spiral,
                         const uint32_t *line, size_t line_numbers);
+uint64_t pokyandi_legs(const int64_t *points, size_t point_numbers);
 uint64_t pokyandi_none(void);
 #ifdef __cplusplus
 }
@@ -253,6 +263,7 @@ extern "C" {
         line: *const u32,
         line_numbers: usize,
     ) -> u64;
+    fn pokyandi_legs(points: *const i64, point_numbers: usize) -> u64;
     fn pokyandi_none() -> u64;
 }
 fn count() -> u64 { 0 }
@@ -266,7 +277,7 @@ fn planted(text: &str, from: &str, to: &str) -> String {
 
 #[test]
 fn equal_declarations_have_no_difference() {
-    assert_eq!(rattle_calls(RATTLE).len(), 3);
+    assert_eq!(rattle_calls(RATTLE).len(), 4);
     assert_eq!(all_differences(RATTLE, HEADER, RUST), [""; 0]);
 }
 
@@ -286,6 +297,7 @@ fn a_drift_of_the_header_is_found() {
         (", size_t row_numbers", ""),
         ("size_t row_numbers", "uint32_t row_numbers"),
         ("size_t row_numbers", "size_t sheet_numbers"),
+        ("size_t point_numbers", "size_t leg_numbers"),
         ("enum", "const char *pokyandi_more(uint32_t number);\nenum"),
     ];
     for (from, to) in drifts {

@@ -48,25 +48,24 @@ fn make(text: &[u8]) -> (Option<Made>, Vec<Remark>) {
         Err(fault) => return (None, vec![fault]),
     };
     let mut remarks = std::mem::take(&mut text.warnings);
-    let sheet = match text.line.sheet() {
-        Ok(sheet) => sheet,
+    let made = text.line().and_then(|line| Ok((line.sheet()?, line)));
+    let (sheet, line) = match made {
+        Ok(made) => made,
         Err(refusal) => {
             remarks.push(text.remark(refusal));
             return (None, remarks);
         }
     };
+    remarks.extend(text.found(&line));
     // Reader and writer of the library undo each other; it is seen here once more.
-    if Line::of_sheet(&sheet).as_ref() != Ok(&text.line) {
+    if Line::of_sheet(&sheet).as_ref() != Ok(&line) {
         let words = "the sheet read back is another line: nothing is written".into();
         remarks.push(Remark { line: 1, words });
         return (None, remarks);
     }
     let refusal = pokyandi::check(&sheet).err();
     remarks.extend(refusal.map(|refusal| text.remark(refusal)));
-    (
-        Some(Made::of(&text.line, sheet, refusal.is_some())),
-        remarks,
-    )
+    (Some(Made::of(&line, sheet, refusal.is_some())), remarks)
 }
 
 impl Made {

@@ -28,13 +28,14 @@ fn text_of(line: &Line) -> String {
     text += &format!("start {}km\n", kilometres(line.start(), 3));
     text += &distance(line, 0);
     for i in 1..=line.curve_count() {
+        let curve = line.curve(i);
         let Curve {
-            left,
             deflection,
             radius,
             spiral,
-        } = line.curve(i);
-        let side = if left { "left" } else { "right" };
+            ..
+        } = curve;
+        let side = curve.side();
         let angle = degrees_in_letters(deflection);
         let [radius, spiral] = [radius, spiral].map(|mm| decimal(mm, 3));
         text += &format!("curve {side} {angle} {radius}m {spiral}m  # {i}\n");
@@ -56,6 +57,7 @@ mod tests {
     #[test]
     fn the_text_of_a_line_is_that_line() {
         let text = text_of(&example());
-        assert_eq!(Text::read(text.as_bytes()).unwrap().line, example());
+        let text = Text::read(text.as_bytes()).unwrap();
+        assert_eq!(text.line(), Ok(example()));
     }
 }

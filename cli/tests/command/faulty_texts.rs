@@ -15,6 +15,18 @@ distance 400m
 
 const FAULTS: &str = include_str!("faulty_texts.txt");
 
+const POINTS: &str = "\
+speed 40
+crossfall 8
+start 12+340.5km
+point -120.250m 85m
+point 90.1m 259.120m 120m 40m
+point 332.230m 241.755m 100m 40m
+point 528m 408.9m
+";
+
+const FAULTY_POINTS: &str = include_str!("faulty_points.txt");
+
 /// Makes a text over an old sheet, which must be as it was then.
 fn make_over_old(folder: &Folder, text: &[u8]) -> Run {
     let sheet = folder.file("line.sheet", b"old");
@@ -34,28 +46,44 @@ fn check_fault(folder: &Folder, text: &[u8], words: &str) {
     );
 }
 
-/// The text with this line, from 1, in place of its own, or behind it.
-fn with_line(number: usize, line: &str) -> String {
-    let mut lines: Vec<&str> = TEXT.lines().collect();
+/// A text with this line, from 1, in place of its own, or behind it.
+fn with_line(text: &str, number: usize, line: &str) -> String {
+    let mut lines: Vec<&str> = text.lines().collect();
     lines.resize(lines.len().max(number), "");
     lines[number - 1] = line;
     lines.join("\n") + "\n"
 }
 
-#[test]
-fn faulty_lines() {
+/// Tries each fault of a list in a text, and gives their number.
+fn check_faults(text: &str, faults: &str) -> usize {
     let folder = Folder::new();
     let mut told = BTreeSet::new();
-    for fault in FAULTS.lines().skip(1) {
+    for fault in faults.lines().skip(1) {
         let [number, line, words] = fault.splitn(3, '|').collect::<Vec<_>>().try_into().unwrap();
-        check_fault(
-            &folder,
-            with_line(number.parse().unwrap(), line).as_bytes(),
-            words,
-        );
+        let text = with_line(text, number.parse().unwrap(), line);
+        check_fault(&folder, text.as_bytes(), words);
         assert!(told.insert(words), "two faults have the words: {words}");
     }
-    assert!(told.len() >= 40);
+    told.len()
+}
+
+#[test]
+fn faulty_lines() {
+    assert!(check_faults(TEXT, FAULTS) >= 40);
+}
+
+#[test]
+fn faulty_points() {
+    assert!(check_faults(POINTS, FAULTY_POINTS) >= 20);
+}
+
+#[test]
+fn too_many_points() {
+    let point = "point 528m 408.9m 100m 40m\n";
+    let text = POINTS.replace("point 528m", &(point.repeat(63) + "point 528m"));
+    let words =
+        "69: point 528m 408.9m 100m 40m: refused 3: the line has 65 curves; it may have 64 at most";
+    check_fault(&Folder::new(), text.as_bytes(), words);
 }
 
 #[test]

@@ -6,6 +6,7 @@ mod faulty_texts;
 mod help;
 mod made;
 mod pegs;
+mod points;
 mod random_lines;
 mod run;
 mod several;

@@ -1,4 +1,5 @@
-//! Random lines, written in random forms: text, sheet, text and sheet again.
+//! Random lines, written in random forms: text, sheet, text and sheet again; and
+//! random points.
 
 use crate::run::run_with_input;
 use pokyandi::{LINE_NUMBERS, SHEET_BYTES};
@@ -129,5 +130,64 @@ fn text_sheet_text_sheet() {
         let mut read = [0; LINE_NUMBERS];
         let count = pokyandi::read(&sheet, &mut read).unwrap();
         assert_eq!(read[..count], line);
+    }
+}
+
+/// Random points of a line that turns left and right on its way to the east: east
+/// and north of each, mm.
+fn random_points(dice: &mut Dice) -> Vec<[i64; 2]> {
+    let count = i64::from(dice.between(2, 66));
+    let mut near = |place: i64| place + i64::from(dice.between(0, 10_000)) - 5_000;
+    let point = |i: i64| [near(290_000 * i - 9_400_000), near(50_000 * (i % 2))];
+    (0..count).map(point).collect()
+}
+
+/// A coordinate in a random form.
+fn coordinate(dice: &mut Dice, mm: i64) -> String {
+    let sign = match mm < 0 {
+        true => dice.one_of(&["-", "−"]),
+        false => dice.one_of(&["", "+"]),
+    };
+    format!("{sign}{}", length(dice, mm.unsigned_abs() as u32))
+}
+
+#[test]
+fn points_to_sheet() {
+    const RADIUS: u32 = 120_000;
+    const SPIRAL: u32 = 30_000;
+    let mut dice = Dice(SEED);
+    for _ in 0..LINES {
+        let points = random_points(&mut dice);
+        let start = dice.between(0, 200_000_000);
+        let mut text = format!(
+            "speed 40\ncrossfall 8\nstart {}\n",
+            length(&mut dice, start)
+        );
+        for (i, point) in points.iter().enumerate() {
+            let [east, north] = point.map(|mm| coordinate(&mut dice, mm));
+            text += &format!("point {east} {north}");
+            if i > 0 && i + 1 < points.len() {
+                let [radius, spiral] = [RADIUS, SPIRAL].map(|mm| length(&mut dice, mm));
+                text += &format!(" {radius} {spiral}");
+            }
+            text += dice.one_of(&["\n", "\r\n", " # a comment\n"]);
+        }
+
+        let curves = [RADIUS, SPIRAL].repeat(points.len() - 2);
+        let mut line = [0; LINE_NUMBERS];
+        let count = pokyandi::from_points(40, 8, start, &points.concat(), &curves, &mut line);
+        let mut expected = [0; SHEET_BYTES];
+        let size = pokyandi::write(&line[..count.unwrap()], &mut expected).unwrap();
+        let made = run_with_input(&["make", "-", "-"], text.as_bytes());
+        assert_eq!(
+            (made.out.as_slice(), made.status),
+            (&expected[..size], Some(0)),
+            "{text}"
+        );
+        let found = made
+            .words
+            .lines()
+            .filter(|words| !words.contains("warning"));
+        assert_eq!(found.count(), 2 * points.len() - 3, "{}", made.words);
     }
 }
