@@ -1,0 +1,2 @@
+-- Laws of the line from points.
+pub mod Counts

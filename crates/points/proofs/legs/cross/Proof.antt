@@ -1,0 +1,45 @@
+-- `cross`: the definition, of two products. Assumes nothing.
+use mathlib.Core.Path.{_∙_}
+use lib.IntN.{_-ℤ_}
+use native.Mathlib.Omega.{arith}
+use Rattle.coordinates.specs.Legs.{crossOf}
+use Rattle.points.proofs.Sizes.{held}
+use borrow.Author.Needs.{needs}
+use Rattle.points.proofs.legs.cross.Statement.{statement}
+use Rattle.points.proofs.legs.cross.Tie as tie
+use Rattle.points.proofs.legs.cross.Reads as reads
+use Rattle.points.proofs.legs.cross.Lts as lts
+use Rattle.points.proofs.legs.minus.Reads as minus-reads
+use Rattle.points.proofs.legs.times.Reads as times-reads
+
+times-requires : tie.Need-times-requires
+times-requires c κs = search needs
+
+times-requires-2 : tie.Need-times-requires-2
+times-requires-2 c κs = search needs
+
+minus-requires : tie.Need-minus-requires
+minus-requires c κs =
+    let one = c .before .before .before .times in
+    let two = c .times2 in
+    rw (held (one .result) (omega (arith, one .ensures .1)), held (two .result) (omega (arith, two .ensures .1)))
+    (omega (arith, one .ensures .1), omega (arith, two .ensures .1))
+
+returns : tie.Need-returns
+unfolding crossOf
+returns c =
+    let start = c .before .before .before .before .before .before .before in
+    let one = c .before .before .before .before .times in
+    let two = c .before .times2 in
+    let into = start .args .into in
+    let out = start .args .out in
+    let x = rw (held (into .east) (omega (arith, start .pre .0 .east)), held (out .north) (omega (arith, start .pre .1 .north))) at (one .ensures .0) in
+    let y = rw (held (into .north) (omega (arith, start .pre .0 .north)), held (out .east) (omega (arith, start .pre .1 .east))) at (two .ensures .0) in
+    let is =
+    rw (held (one .result) (omega (arith, one .ensures .1)), held (two .result) (omega (arith, two .ensures .1))) at
+    (c .minus .ensures) in
+    rw (held (c .minus .result) (omega (arith, is .1, one .ensures .1, two .ensures .1)))
+    (is .0 ∙ (λ j. x j -ℤ y j), omega (arith, is .1, one .ensures .1, two .ensures .1))
+
+pub cross-spec : {M : Type 1} → statement M
+cross-spec = tie.close (tie.spec times-requires times-requires-2 minus-requires returns)

@@ -1,0 +1,40 @@
+-- `seconds`: the turn where the legs go on ahead. Assumes nothing.
+use mathlib.Core.Path.{refl, _∙_}
+use native.Mathlib.Omega.{arith}
+use mir.Facts.{toZ-ofZ}
+use Rattle.turns.specs.Turn.{turnOrWide}
+use Rattle.points.specs.Steps.{secondsOf}
+use borrow.Author.Needs.{needs}
+use Rattle.points.proofs.making.seconds.Statement.{statement}
+use Rattle.points.proofs.making.seconds.Tie as tie
+use Rattle.points.proofs.making.seconds.Reads as reads
+use Rattle.points.proofs.making.seconds.Lts as lts
+use Rattle.points.proofs.legs.size.Reads as size-reads
+use Rattle.turns.proofs.turn.Reads as turn-reads
+
+returns : tie.Need-returns
+unfolding secondsOf
+returns c =
+    let back = rw (toZ-ofZ (c .before .fits .along)) at (c .if1 .taken) in
+    rw back refl
+
+size-requires : tie.Need-size-requires
+size-requires c κs = rw (toZ-ofZ (c .before .fits .across)) (omega arith)
+
+size-requires-2 : tie.Need-size-requires-2
+size-requires-2 c κs = rw (toZ-ofZ (c .before .before .fits .along)) (omega arith)
+
+turn-requires : tie.Need-turn-requires
+turn-requires c κs = search needs
+
+returns-2 : tie.Need-returns-2
+unfolding secondsOf
+returns-2 c =
+    let start = c .before .before .before .before in
+    let ahead = rw (toZ-ofZ (start .fits .along)) at (c .before .before .before .if1 .left) in
+    let across = rw (toZ-ofZ (start .fits .across)) at (c .before .before .size .ensures) in
+    let along = rw (toZ-ofZ (start .fits .along)) at (c .before .size2 .ensures) in
+    rw ahead (c .turn .ensures .0 ∙ (λ j. turnOrWide (across j) (along j)))
+
+pub seconds-spec : {M : Type 1} → statement M
+seconds-spec = tie.close (tie.spec returns size-requires size-requires-2 turn-requires returns-2)

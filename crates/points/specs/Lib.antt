@@ -1,0 +1,3 @@
+-- What the private steps of `points` promise.
+pub mod Reach
+pub mod Steps
