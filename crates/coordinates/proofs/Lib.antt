@@ -1,2 +1,3 @@
 -- Laws of the line from points.
 pub mod Counts
+pub mod Accepted

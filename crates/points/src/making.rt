@@ -76,7 +76,6 @@ fn distances_of(points: &[i64], n: usize) -> Distances
     found
 }
 
-
 // The turn of two legs, in seconds of arc; 216,001 for every turn over 216,000, and where the legs do not go on ahead.
 fn seconds(across: i64, along: i64) -> u32
     requires { ⌜ (natAbs across ≤ 800000000000000) × (natAbs along ≤ 800000000000000) ⌝ }

@@ -9,7 +9,7 @@ use lib.IntN.{ℤ, natAbs}
 use lib.ListN.{length}
 use borrow.Author.Tests.{le-leb}
 use Rattle.refusals.specs.Outcomes.{Outcome, passed, refused, need, _▹_}
-use Rattle.refusals.specs.Order.{unchecked, outcome}
+use Rattle.refusals.specs.Order.{Checks, unchecked, outcome}
 use Rattle.refusals.specs.Filling.{FillReply, unfilled, countAfter, withRoom, fill}
 use Rattle.refusals.proofs.Joining.{passed-right}
 use Rattle.refusals.proofs.FillWays.{refused-fill, refill}
@@ -29,10 +29,22 @@ use Rattle.stationing.specs.Stations.{stationRow}
 use Rattle.stationing.specs.Answer.{alignmentChecks, stationsIn}
 use Rattle.stationing.proofs.Accepted.{few}
 use Rattle.stationing.proofs.RowCount.{row-count}
+use Rattle.coordinates.specs.FromPoints.{lineFrom, fromPointsChecks}
+use Rattle.coordinates.proofs.Accepted.{line-accepted}
 use Rattle.pegs.specs.Pegs.{pegChecks}
 use Rattle.pegs.specs.Numbers.{stationNumbers}
 use Rattle.station_report.specs.Report.{sheetChecks}
-use Rattle.pokyandi.specs.Calls.{sheetStations, sheetPegChecks, sheetPeg, checkReply, sheetNumbers, numbersSheet, elementValues, elementNumbers, numbersOf}
+use Rattle.pokyandi.specs.Calls.{sheetStations, sheetPegChecks, sheetPeg, checkReply, sheetNumbers, numbersSheet, pointNumbers, elementValues, elementNumbers, numbersOf}
+
+-- The numbers of a line that passes a call's checks.
+line-reply : (checks : Checks) (whole : Line) → outcome checks ≡ passed → whole .count ≤ 64 → {line : Line} → line ≡ whole
+    → (buffer : List ℕ) {reply : FillReply} {after : List ℕ}
+    → (reply ≡ fill (fewCheck line) (lineNumbers line) buffer .reply) × (after ≡ fill (fewCheck line) (lineNumbers line) buffer .buffer)
+    → (reply ≡ fill checks (lineNumbers whole) buffer .reply) × (after ≡ fill checks (lineNumbers whole) buffer .buffer)
+line-reply checks whole accepted most {line} same buffer told =
+    let passes : outcome (fewCheck line) ≡ outcome checks =
+    ap (λ (l : Line). outcome (fewCheck l)) same ∙ ap (λ (b : Bool). need b 3 0) (le-leb (whole .count) 64 most) ∙ sym accepted in
+    refill (fewCheck line) checks (lineNumbers line) (lineNumbers whole) buffer passes (ap lineNumbers same) told
 
 -- ---- the calls on a sheet
 
@@ -95,12 +107,22 @@ module _ (sheet : List ℕ) (accepted : outcome (readChecks firstEdition sheet) 
       → (reply ≡ fill (readChecks firstEdition sheet) (sheetNumbers sheet) buffer .reply)
       × (after ≡ fill (readChecks firstEdition sheet) (sheetNumbers sheet) buffer .buffer)
   unfolding sheetNumbers
-  numbers-reply buffer told =
+  numbers-reply =
       let E = firstEdition in
-      let few = line-in-range (readLine E sheet) (accepted-line E sheet accepted) .few in
-      let checks : outcome (fewCheck line) ≡ outcome (readChecks E sheet) =
-      ap (λ (l : Line). outcome (fewCheck l)) same ∙ ap (λ (b : Bool). need b 3 0) (le-leb (readLine E sheet .count) 64 few) ∙ sym accepted in
-      refill (fewCheck line) (readChecks E sheet) (lineNumbers line) (sheetNumbers sheet) buffer checks (ap lineNumbers same) told
+      line-reply (readChecks E sheet) (readLine E sheet) accepted (line-in-range (readLine E sheet) (accepted-line E sheet accepted) .few) same
+
+-- The numbers of the line of points.
+pub points-reply : (v e start : ℕ) (points : List ℤ) (curves : List ℕ) → outcome (fromPointsChecks v e start points curves) ≡ passed
+    → {line : Line} → line ≡ lineAfter (outcome (fromPointsChecks v e start points curves)) (lineFrom v e start points curves)
+    → (buffer : List ℕ) {reply : FillReply} {after : List ℕ}
+    → (reply ≡ fill (fewCheck line) (lineNumbers line) buffer .reply) × (after ≡ fill (fewCheck line) (lineNumbers line) buffer .buffer)
+    → (reply ≡ fill (fromPointsChecks v e start points curves) (pointNumbers v e start points curves) buffer .reply)
+    × (after ≡ fill (fromPointsChecks v e start points curves) (pointNumbers v e start points curves) buffer .buffer)
+unfolding pointNumbers
+points-reply v e start points curves accepted same =
+    let whole = lineFrom v e start points curves in
+    line-reply (fromPointsChecks v e start points curves) whole accepted (few whole (line-accepted v e start points curves accepted))
+    (same ∙ ap (λ (o : Outcome). lineAfter o whole) accepted)
 
 -- The refusal of a line's count is that of its numbers, and where there is none the writer's answer for their line is the one for them.
 pub refused-count : (numbers buffer : List ℕ) {n p : ℕ} → outcome (countCheck numbers) ≡ refused n p

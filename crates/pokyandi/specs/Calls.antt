@@ -1,4 +1,4 @@
--- What the calls write, from the bytes of a sheet or the numbers of a line or a curve.
+-- What the calls write, from the bytes of a sheet or the numbers of a line, of points or of a curve.
 use mathlib.Core.List.{List, [], _∷_, map}
 use Prim.Native.Nat.{ℕ, _+_, _*_}
 use lib.IntN.{ℤ, natAbs}
@@ -12,6 +12,7 @@ use Rattle.packed_sheet.specs.Writing.{sheetOf}
 use Rattle.elements.specs.declared.Elements.{Elements}
 use Rattle.elements.specs.Answer.{Values, valuesBy}
 use Rattle.stationing.specs.Stations.{stationRow}
+use Rattle.coordinates.specs.FromPoints.{lineFrom}
 use Rattle.pegs.specs.Pegs.{pegChecks}
 use Rattle.pegs.specs.Numbers.{stationNumbers}
 use Rattle.station_report.specs.Report.{sheetChecks}
@@ -39,6 +40,10 @@ sheetNumbers sheet = lineNumbers (readLine firstEdition sheet)
 unfoldable pub numbersSheet : List ℕ → List ℕ
 numbersSheet numbers = sheetOf firstEdition (lineOf numbers)
 
+-- The line of points, as numbers.
+unfoldable pub pointNumbers : (v e start : ℕ) → List ℤ → List ℕ → List ℕ
+pointNumbers v e start points curves = lineNumbers (lineFrom v e start points curves)
+
 -- "The element call returns X, Y, k, p, D, TT."
 unfoldable pub elementValues : (A R L : ℕ) → List ℤ
 elementValues A R L = v .X ∷ v .Y ∷ v .k ∷ v .p ∷ v .D ∷ v .TT ∷ []
@@ -54,6 +59,6 @@ elementNumbers A R L = map natAbs (elementValues A R L)
 abbrev pub numbersOf : Elements → List ℕ
 numbersOf e = e .x ∷ e .y ∷ e .centre ∷ e .shift ∷ e .arc ∷ e .tangent ∷ []
 
--- The version of the library, 0.3.0: major, minor and patch in thousands.
+-- The version of the library, 0.4.0: major, minor and patch in thousands.
 abbrev pub version : ℕ
-version = (0 * 1000 + 3) * 1000 + 0
+version = (0 * 1000 + 4) * 1000 + 0

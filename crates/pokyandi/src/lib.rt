@@ -14,11 +14,13 @@ ghost use Rattle.line_numbers.specs.Numbers.{numbersChecks};
 ghost use Rattle.packed_sheet.specs.Layout.{firstEdition};
 ghost use Rattle.packed_sheet.specs.Reading.{readChecks};
 ghost use Rattle.elements.specs.Answer.{elementChecks};
+ghost use Rattle.coordinates.specs.FromPoints.{fromPointsChecks};
 ghost use Rattle.station_report.specs.Report.{sheetChecks, sheetText};
 ghost use Rattle.pokyandi.specs.Answers.{answerNumber};
-ghost use Rattle.pokyandi.specs.Calls.{sheetStations, sheetPegChecks, sheetPeg, checkReply, sheetNumbers, numbersSheet, elementNumbers, version};
+ghost use Rattle.pokyandi.specs.Calls.{sheetStations, sheetPegChecks, sheetPeg, checkReply, sheetNumbers, numbersSheet, pointNumbers, elementNumbers, version};
 use crate::answer::answer_number;
 use crate::curves::curve_numbers;
+use crate::lines::point_numbers;
 use crate::lines::sheet_numbers;
 use crate::lines::write_numbers;
 use crate::sheets::rewrite_sheet;
@@ -86,6 +88,24 @@ pub extern "C" fn pokyandi_write(line: &[u32], bytes: &mut [u8]) -> u64
     answer_number(write_numbers(line, &mut *bytes))
 }
 
+// The line of points that are given by coordinates (document 02, N2), as `pokyandi_read` gives it, at the front of `line`. `points` are east
+// and north of each point in turn, in whole mm, `curves` radius and spiral of each PI in turn, in mm. Refusals 3 (other than two numbers for
+// each point and each PI, or other than 2 to 66 points), 18, 8 by ascending distance, 20 and 19 point by point, 3 to 15 of the line, then 16.
+#[no_mangle]
+pub extern "C" fn pokyandi_from_points(
+    speed: u32,
+    crossfall: u32,
+    start: u32,
+    points: &[i64],
+    curves: &[u32],
+    line: &mut [u32],
+) -> u64
+    ensures answer { λ r. ⌜ r ≡ answerNumber (fill (fromPointsChecks speed crossfall start (now (points .entry)) (now (curves .entry))) (pointNumbers speed crossfall start (now (points .entry)) (now (curves .entry))) (now (line .entry)) .reply) ⌝ }
+    ensures memory { λ _. ⌜ now (line .exit) ≡ fill (fromPointsChecks speed crossfall start (now (points .entry)) (now (curves .entry))) (pointNumbers speed crossfall start (now (points .entry)) (now (curves .entry))) (now (line .entry)) .buffer ⌝ }
+{
+    answer_number(point_numbers(points, curves, speed, crossfall, start, &mut *line))
+}
+
 // The elements of one curve in µm, X, Y, k, p, D and TT: six numbers at the front of `numbers`. The deflection is in seconds of
 // arc, radius and spiral in mm. Refusals 9, 10, 11, 14, then 16, all with place 0.
 #[no_mangle]
@@ -115,5 +135,5 @@ pub extern "C" fn pokyandi_text(sheet: &[u8], text: &mut [u8]) -> u64
 pub extern "C" fn pokyandi_version() -> u64
     ensures answer { λ r. ⌜ r ≡ version ⌝ }
 {
-    3000
+    4000
 }
