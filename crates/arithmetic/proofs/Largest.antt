@@ -4,6 +4,7 @@ use mathlib.Core.Path.{_≡_, refl, sym}
 use mathlib.Core.Bool.{Bool, true, false, cond}
 use Prim.Native.Nat.{ℕ, zero, suc, _+_, _*_, _≤_, _<_}
 use native.Mathlib.Nat.{mul-le-mul, lt-of-lt-of-le, le-trans}
+use native.Mathlib.Numerals.{add-one}
 use native.Mathlib.Omega.{arith}
 use lib.Dec.{leb}
 use borrow.Author.Tests.{leb-true, leb-false, le-leb, lt-leb}
@@ -87,3 +88,13 @@ root-is n r low high =
     lt-leb (k * k) n
     (lt-of-lt-of-le high
     (mul-le-mul {n₁ = r + 1} {m₁ = r + 1} {n₂ = k} {m₂ = k} (omega arith) (omega arith)))))
+
+-- So it is the one whose square is n or less, while the next one's is above n.
+pub root-within : (n : ℕ) → (rootOf n * rootOf n ≤ n) × (n < (rootOf n + 1) * (rootOf n + 1))
+unfolding rootOf
+root-within n =
+    let test : ℕ → Bool = λ r. leb (r * r) n in
+    let r = largest test n in
+    let here = leb-true (r * r) n (largest-passes test n (le-leb 0 n (omega arith))) in
+    let next = leb-false (suc r * suc r) n (largest-next test n (lt-leb (suc n * suc n) n (omega (arith, root-most (suc n))))) in
+    (here, rw (add-one r) next)

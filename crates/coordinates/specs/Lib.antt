@@ -2,3 +2,4 @@
 pub mod Legs
 pub mod FromPoints
 pub mod Moves
+pub mod AnsweredLine

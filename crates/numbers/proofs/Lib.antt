@@ -5,3 +5,4 @@ pub mod Tests
 pub mod Tables
 pub mod Products
 pub mod Stores
+pub mod Signs

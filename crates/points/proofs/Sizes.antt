@@ -8,15 +8,11 @@ use native.Mathlib.Omega.{arith}
 use lib.Dec.{T, leb, ltb}
 use lib.IntN.{ℤ, pos, negsuc, negℤ, natAbs, subℕ, _+ℤ_, _-ℤ_, _*ℤ_, +ℤ-idl}
 use lib.Signed.{leZ, ltZ, nonNeg}
+use Rattle.numbers.proofs.Signs.{size-negative}
 use mir.Syntax.{w64}
 use mir.Val.{SFits, toZ, ofZ}
 use mir.Facts.{toZ-ofZ}
 use borrow.Author.Tests.{ltb-true, ltb-false, le-leb, lt-leb}
-
-pub size-negative : (z : ℤ) → natAbs (negℤ z) ≡ natAbs z
-size-negative (pos zero) = refl
-size-negative (pos (suc n)) = refl
-size-negative (negsuc n) = refl
 
 size-rest : (a b : ℕ) → natAbs (subℕ a b) ≤ a + b
 size-rest a b = go (ltb a b) refl

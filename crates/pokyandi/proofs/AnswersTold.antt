@@ -1,4 +1,4 @@
--- What a caller in C or Rust reads off an answer: the upper 32 bits are 0 after a count and else the refusal's number, 1 to 17; the lower
+-- What a caller in C or Rust reads off an answer: the upper 32 bits are 0 after a count and else the refusal's number, 1 to 20; the lower
 -- ones are the count or the place. Assumes nothing.
 use mathlib.Core.Path.{_≡_, refl}
 use mathlib.Core.List.{List}
@@ -27,12 +27,15 @@ use Rattle.elements.specs.Answer.{arcCheck, elementChecks}
 use Rattle.stationing.specs.Answer.{alignmentChecks}
 use Rattle.stationing.proofs.Accepted.{few}
 use Rattle.stationing.proofs.RowCount.{row-count}
+use Rattle.coordinates.specs.FromPoints.{lineFrom, fromPointsChecks}
+use Rattle.coordinates.proofs.Accepted.{line-accepted}
+use Rattle.coordinates.proofs.Numbers.{from-points-numbers}
 use Rattle.pegs.specs.Pegs.{stationCheck, pegChecks}
 use Rattle.pegs.specs.Numbers.{stationNumbers}
 use Rattle.station_report.specs.Report.{sheetChecks, sheetText}
 use Rattle.station_report.proofs.Fits.{sheet-numbers, fits}
 use Rattle.pokyandi.specs.Answers.{answerNumber}
-use Rattle.pokyandi.specs.Calls.{sheetStations, sheetPegChecks, sheetPeg, checkReply, sheetNumbers, numbersSheet, elementValues, elementNumbers}
+use Rattle.pokyandi.specs.Calls.{sheetStations, sheetPegChecks, sheetPeg, checkReply, sheetNumbers, numbersSheet, pointNumbers, elementValues, elementNumbers}
 
 -- The upper and the lower half of an answer tell the reply; the numbers of a call's refusals go up to a greatest one.
 abbrev pub Told : (greatest : ℕ) → FillReply → Type 0
@@ -104,6 +107,16 @@ peg-told sheet station lent =
     let few : Refuses 1 17 127 (sheetChecks sheet) = wider (sheetChecks sheet) (sheet-numbers sheet) (omega arith) (omega arith) (omega arith) in
     reply-told 17 (omega arith) (sheetPegChecks sheet station) (sheetPeg sheet station) lent (few .0, λ h. (few .1 h, λ _. (omega arith, omega arith, omega arith)))
     (λ e. omega arith)
+
+pub from-points-told : (v e start : ℕ) (points : List ℤ) (curves lent : List ℕ)
+    → Told 20 (fill (fromPointsChecks v e start points curves) (pointNumbers v e start points curves) lent .reply)
+unfolding pointNumbers
+from-points-told v e start points curves lent =
+    let checks = fromPointsChecks v e start points curves in
+    let whole = lineFrom v e start points curves in
+    reply-told 20 (omega arith) checks (pointNumbers v e start points curves) lent
+    (wider checks (from-points-numbers v e start points curves) (omega arith) (omega arith) (omega arith))
+    (λ accepted. omega (arith, line-length whole, few whole (line-accepted v e start points curves accepted)))
 
 pub write-told : (numbers lent : List ℕ) → Told 16 (fill (numbersChecks numbers) (numbersSheet numbers) lent .reply)
 unfolding numbersChecks numbersSheet countCheck lineOf

@@ -1,5 +1,5 @@
 -- What the answer of a call that answers a value says of its checks, and what such a call answers on each way out. Assumes nothing.
-use mathlib.Core.Path.{_≡_, refl, sym, ap}
+use mathlib.Core.Path.{_≡_, refl, sym, _∙_, ap}
 use Prim.Native.Nat.{ℕ}
 use native.Mathlib.Omega.{arith}
 use Rattle.refusals.specs.Outcomes.{Outcome, passed, refused}
@@ -50,6 +50,15 @@ module _ {A : Type 0} where
     pub refused-reply : {n p : ℕ} → outcome checks ≡ refused n p → declined n p ≡ reply checks value
     unfolding reply
     refused-reply e = rw e
+
+  -- Checks that agree, and values that are the same where they pass, give the same answer.
+  pub same-reply : (a b : Checks) {x y : A} → outcome a ≡ outcome b → (outcome a ≡ passed → x ≡ y) → reply a x ≡ reply b y
+  unfolding reply
+  same-reply a b {x} {y} e same = go (outcome a) refl ∙ ap (λ (o : Outcome). replyTo o y) e
+    where
+      go : (o : Outcome) → outcome a ≡ o → replyTo (outcome a) x ≡ replyTo (outcome a) y
+      go passed p = ap (replyTo (outcome a)) (same p)
+      go (refused n k) p = rw p refl
 
   -- The first of two parts refuses, or passes and the second decides.
   module _ (a b : Checks) (value : A) where

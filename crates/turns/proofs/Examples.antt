@@ -3,8 +3,8 @@ use mathlib.Core.Path.{_≡_, refl, sym}
 use mathlib.Core.Bool.{true, false}
 use native.Mathlib.Omega.{arith}
 use Rattle.elements.specs.WorkingRule.{fullAngle, term, alternating, sineOf, cosineOf}
-use Rattle.turns.specs.Turn.{reached, turnOf}
-use Rattle.turns.proofs.OneTurn.{LastReached, last-is-turn, no-cross}
+use Rattle.turns.specs.Turn.{reached, turnOf, LastReached}
+use Rattle.turns.proofs.OneTurn.{last-is-turn, no-cross}
 
 pub record Examples : Type 0 where
   pub one-second : LastReached 4848 1000000000 1

@@ -8,13 +8,8 @@ use native.Mathlib.Omega.{arith}
 use borrow.Author.Tests.{lt-leb}
 use Rattle.arithmetic.proofs.Largest.{largest-most, largest-passes, largest-next, largest-is}
 use Rattle.elements.specs.WorkingRule.{scale, fullAngle, term, alternating, sineOf, cosineOf}
-use Rattle.turns.specs.Turn.{reached, turnOf, turnOrWide}
+use Rattle.turns.specs.Turn.{reached, turnOf, turnOrWide, LastReached}
 use Rattle.turns.proofs.Seconds.{reached-by, not-reached-later, reached-0}
-
--- s is reached, and the next second is not.
-pub record LastReached (cross dot s : ℕ) : Type 0 where
-  pub here : reached cross dot s ≡ true
-  pub not-next : reached cross dot (suc s) ≡ false
 
 module _ (cross dot : ℕ) where
   -- Where 216,001 is not reached, the deflection is such a second,

@@ -1,7 +1,8 @@
 -- Document 02's deflection at a PI (N2), sentence by sentence: from the size of the cross product of the legs into and out of the PI, and
 -- from their dot product.
-use mathlib.Core.Bool.{Bool, cond}
-use Prim.Native.Nat.{ℕ}
+use mathlib.Core.Path.{_≡_}
+use mathlib.Core.Bool.{Bool, true, false, cond}
+use Prim.Native.Nat.{ℕ, suc}
 use lib.IntN.{pos, _*ℤ_}
 use lib.Signed.{leZ}
 use Rattle.arithmetic.specs.Largest.{largest}
@@ -18,3 +19,8 @@ turnOf cross dot = largest (reached cross dot) 216000
 -- The deflection, or 216,001 for "a turn where 216,001 also holds".
 unfoldable pub turnOrWide : ℕ → ℕ → ℕ
 turnOrWide cross dot = cond (reached cross dot 216001) 216001 (turnOf cross dot)
+
+-- s is reached, and the next second is not.
+pub record LastReached (cross dot s : ℕ) : Type 0 where
+  pub here : reached cross dot s ≡ true
+  pub not-next : reached cross dot (suc s) ≡ false

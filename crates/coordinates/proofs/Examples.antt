@@ -1,0 +1,135 @@
+-- Refusals in their order and with their places, sides, and document 01's case 1 by its points. Assumes nothing.
+use mathlib.Core.Path.{_≡_, refl, sym}
+use mathlib.Core.List.{List, [], _∷_}
+use Prim.Native.Nat.{ℕ}
+use native.Mathlib.Omega.{arith}
+use lib.IntN.{ℤ, pos, negsuc}
+use Rattle.refusals.specs.Outcomes.{Outcome, passed, refused, firstOf}
+use Rattle.refusals.specs.Order.{outcome}
+use Rattle.refusals.specs.Replying.{answered, reply}
+use Rattle.refusals.proofs.Filled.{found}
+use Rattle.refusals.proofs.Replied.{passed-reply}
+use Rattle.line.specs.Checks.{distanceCheck}
+use Rattle.line.specs.Entries.{entries}
+use Rattle.arithmetic.specs.Largest.{largest, rootOf}
+use Rattle.arithmetic.proofs.Largest.{root-is}
+use Rattle.elements.specs.WorkingRule.{fullAngle, term, alternating, sineOf, cosineOf}
+use Rattle.turns.specs.Turn.{reached, turnOf, LastReached}
+use Rattle.turns.proofs.OneTurn.{last-is-turn}
+use Rattle.turns.proofs.Examples.{turns}
+use Rattle.stationing.specs.Stations.{stationRow}
+use Rattle.stationing.specs.Answer.{alignmentChecks, stationsIn}
+use Rattle.stationing.proofs.Examples.{caseLine, row}
+use Rattle.stationing.proofs.Examples as stations
+use Rattle.coordinates.specs.Legs.{lengthOf, crossOf, dotOf, crossAt}
+use Rattle.coordinates.specs.FromPoints.{distanceFrom, deflectionFrom, curveFrom, lineFrom, countChecks, coordinateCheck, lengthCheck, turnChecks, fromPointsChecks}
+
+-- What is said of points at V 70, e 8, start 0.
+abbrev says : List ℤ → List ℕ → Outcome
+says points curves = outcome (fromPointsChecks 70 8 0 points curves)
+
+-- Two points, 1 mm apart, and a third.
+abbrev before : ℤ → ℤ → List ℤ
+before east north = pos 0 ∷ pos 0 ∷ pos 1 ∷ pos 0 ∷ east ∷ north ∷ []
+
+-- A design for each of two PIs.
+abbrev one : List ℕ
+one = 350000 ∷ 40000 ∷ []
+
+abbrev two : List ℕ
+two = 350000 ∷ 40000 ∷ 350000 ∷ 40000 ∷ []
+
+pub record Examples : Type 0 where
+  pub one-point : says (pos 0 ∷ pos 0 ∷ []) [] ≡ refused 3 0
+  pub odd : says (pos 0 ∷ pos 0 ∷ pos 10000001 ∷ pos 0 ∷ pos 0 ∷ []) [] ≡ refused 3 0
+  pub no-design : says (before (pos 10000001) (pos 0)) [] ≡ refused 3 0
+  pub too-far-east : says (before (pos 10000001) (pos 0)) one ≡ refused 18 0
+  pub too-far-south : says (before (pos 1) (negsuc 10000000)) one ≡ refused 18 0
+  pub far-before-near : says (pos 0 ∷ pos 0 ∷ pos 0 ∷ pos 0 ∷ pos 10000001 ∷ pos 0 ∷ []) one ≡ refused 18 0
+  pub equal-points : says (before (pos 1) (pos 0)) one ≡ refused 8 1
+  pub distance-before-turn : says (pos 0 ∷ pos 0 ∷ pos 1 ∷ pos 0 ∷ pos 0 ∷ pos 0 ∷ pos 0 ∷ pos 0 ∷ []) two ≡ refused 8 2
+  pub square-turn : says (before (pos 1) (pos 1)) one ≡ refused 20 1
+  pub back : says (before (pos 0) (pos 0)) one ≡ refused 20 1
+  pub over-60 : says (before (pos 2) (pos 2)) one ≡ refused 20 1
+  pub left : crossAt (before (pos 2) (pos 1)) 0 ≡ pos 1
+  pub right : crossAt (before (pos 2) (negsuc 0)) 0 ≡ negsuc 0
+
+pub examples : Examples
+unfolding fromPointsChecks countChecks coordinateCheck lengthCheck turnChecks distanceCheck firstOf lengthOf crossOf dotOf rootOf largest reached fullAngle term alternating sineOf cosineOf
+examples =
+    record {
+      one-point = refl;
+      odd = refl;
+      no-design = refl;
+      too-far-east = refl;
+      too-far-south = refl;
+      far-before-near = refl;
+      equal-points = refl;
+      distance-before-turn = refl;
+      square-turn = refl;
+      back = refl;
+      over-60 = refl;
+      left = refl;
+      right = refl;
+    }
+
+-- ---- where a turn is found
+
+-- Straight on, by no turn; and a turn of 45° before one that goes back.
+abbrev onTo : ℤ → ℤ → List ℤ
+onTo east north = pos 0 ∷ pos 0 ∷ pos 1 ∷ pos 0 ∷ pos 2 ∷ north ∷ east ∷ north ∷ []
+
+pub record Turned : Type 0 where
+  pub straight-on : says (before (pos 2) (pos 0)) one ≡ refused 19 1
+  pub first-point-first : says (onTo (pos 1) (pos 0)) two ≡ refused 19 1
+  pub second-point : says (onTo (pos 1) (pos 1)) two ≡ refused 20 2
+  pub turn-before-speed : outcome (fromPointsChecks 45 8 0 (before (pos 2) (pos 0)) one) ≡ refused 19 1
+  pub deflection-45 : deflectionFrom (before (pos 2) (pos 1)) 0 ≡ 162000
+
+pub turned : Turned
+unfolding fromPointsChecks countChecks coordinateCheck lengthCheck turnChecks distanceCheck firstOf deflectionFrom lengthOf crossOf dotOf rootOf largest reached fullAngle term alternating sineOf cosineOf
+turned =
+    record {
+      straight-on = rw (turns .none) refl;
+      first-point-first = rw (turns .none) refl;
+      second-point = rw (turns .equal-products) refl;
+      turn-before-speed = rw (turns .none) refl;
+      deflection-45 = turns .equal-products;
+    }
+
+-- ---- document 01's case 1 by its points: the third is 760.421 m east and 303.614 m south of the first
+
+abbrev points1 : List ℤ
+points1 = pos 0 ∷ pos 0 ∷ pos 500000 ∷ pos 0 ∷ pos 760421 ∷ negsuc 303613 ∷ []
+
+distance-0 : distanceFrom points1 0 ≡ 500000
+unfolding lengthOf
+distance-0 = sym (root-is 250000000000 500000 (omega arith) (omega arith))
+
+distance-1 : distanceFrom points1 1 ≡ 400000
+unfolding lengthOf
+distance-1 = sym (root-is 160000558237 400000 (omega arith) (omega arith))
+
+last-second : LastReached 151807000000 130210500000 177764
+unfolding reached fullAngle term alternating sineOf cosineOf
+last-second = record { here = refl; not-next = refl }
+
+deflection-1 : deflectionFrom points1 0 ≡ 177764
+unfolding deflectionFrom crossOf dotOf
+deflection-1 = sym (last-is-turn 151807000000 130210500000 177764 (omega arith) last-second)
+
+line-1 : lineFrom 70 8 0 points1 one ≡ caseLine 500000 350000 40000
+unfolding lineFrom curveFrom entries crossOf
+line-1 = rw (distance-0, distance-1, deflection-1) refl
+
+aligned : outcome (alignmentChecks (caseLine 500000 350000 40000)) ≡ passed
+unfolding stationsIn
+aligned =
+    found (alignmentChecks (caseLine 500000 350000 40000)) (stationRow (caseLine 500000 350000 40000)) row (stations.examples .case-1) .checked
+
+checks-1 : says points1 one ≡ passed
+unfolding fromPointsChecks countChecks coordinateCheck lengthCheck turnChecks distanceCheck firstOf crossOf dotOf reached fullAngle term alternating sineOf cosineOf
+checks-1 = rw (distance-0, distance-1, deflection-1, line-1, aligned) refl
+
+pub case-1 : reply (fromPointsChecks 70 8 0 points1 one) (lineFrom 70 8 0 points1 one) ≡ answered (caseLine 500000 350000 40000)
+case-1 = sym (passed-reply (fromPointsChecks 70 8 0 points1 one) (lineFrom 70 8 0 points1 one) checks-1 (sym line-1))
