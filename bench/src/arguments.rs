@@ -6,9 +6,9 @@ pub const USAGE: &str = "\
 usage: bench [--rounds N] [--quick] [--program PATH] [--command PATH]
              [--reference-program PATH]
 
-Times the proved library against the reference, in alternate rounds of the same
-calls, and prints the medians. Fails when an answer of the two differs; never by
-time.
+Times the proved library against the reference, and some calls against plain C, in
+alternate rounds of the same calls, and prints the medians. Fails when an answer
+differs; never by time.
 
   --rounds N                rounds of each call, 201 unless given
   --quick                   a few short rounds, in a second or two

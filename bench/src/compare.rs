@@ -1,12 +1,13 @@
-//! Before a job is timed, the answers of both sides are compared for each input.
+//! Before a job is timed, the answers of all sides are compared for each input.
 
-use crate::baseline;
+use crate::baseline::Baseline;
 use crate::inputs::{Inputs, Road};
 use crate::job::{Job, Task};
 use crate::library::Library;
 use crate::reference_side::Reference;
 use crate::side::Side;
 use reference::curve::Curve;
+use reference::samples::surveys::Survey;
 use std::fmt::Debug;
 
 /// The C baseline may differ by so much from the library, µm: document 01's
@@ -20,6 +21,7 @@ pub fn compare(job: Job, inputs: &Inputs) -> Result<(), String> {
     let (mut library, mut reference) = (Library::new(), Reference::new());
     for i in 0..job.input_count(inputs) {
         let same = match job.task {
+            Task::Points => compare_survey(&job.surveys(inputs)[i], &mut library, &mut reference),
             Task::Elements => compare_curve(inputs.curves[i], &mut library, &mut reference),
             task => compare_road(task, &job.roads(inputs)[i], &mut library, &mut reference),
         };
@@ -46,8 +48,22 @@ fn compare_road(
         Task::Peg => same(library.peg(sheet, *station), reference.peg(sheet, *station)),
         Task::Check => same(library.check(sheet), reference.check(sheet)),
         Task::Text => same(library.text(sheet), reference.text(sheet)),
-        Task::Elements => unreachable!("elements are compared by curve"),
+        Task::Points | Task::Elements => unreachable!("they have inputs of their own"),
     }
+}
+
+fn compare_survey(
+    survey: &Survey,
+    library: &mut Library,
+    reference: &mut Reference,
+) -> Result<(), String> {
+    let answer = library.line_from_points(survey);
+    same(answer, reference.line_from_points(survey))?;
+    same_as(
+        "the C baseline",
+        answer,
+        Baseline::new().line_from_points(survey),
+    )
 }
 
 fn compare_curve(
@@ -67,24 +83,27 @@ fn compare_curve(
 }
 
 fn same<T: PartialEq + Debug>(library: T, reference: T) -> Result<(), String> {
-    if library == reference {
+    same_as("the reference", library, reference)
+}
+
+fn same_as<T: PartialEq + Debug>(name: &str, library: T, other: T) -> Result<(), String> {
+    if library == other {
         return Ok(());
     }
     let shown = |answer: T| -> String { format!("{answer:?}").chars().take(MOST_SHOWN).collect() };
     Err(format!(
-        "the library answers {}, the reference {}",
+        "the library answers {}, {name} {}",
         shown(library),
-        shown(reference)
+        shown(other)
     ))
 }
 
 /// The largest difference between the C baseline's elements of a curve and those
 /// that the library keeps of it, µm.
 fn baseline_difference(curve: Curve, library: &Library) -> f64 {
-    let mut numbers = [0.0; 6];
-    baseline::elements(curve, &mut numbers);
+    let mut baseline = Baseline::new();
+    let numbers = baseline.elements(curve).iter();
     numbers
-        .iter()
         .zip(library.kept_elements())
         .map(|(number, exact)| (number - exact as f64).abs())
         .fold(0.0, f64::max)

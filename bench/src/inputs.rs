@@ -1,6 +1,7 @@
-//! The sheets, stations and curves that the jobs go through, the same in every
-//! run. All are accepted.
+//! The sheets, stations, curves and points that the jobs go through, the same in
+//! every run. All are accepted.
 
+use crate::surveys::Surveys;
 use reference::curve::Curve;
 use reference::line::{Line, MOST_CURVES};
 use reference::pegs::stretches;
@@ -9,6 +10,7 @@ use reference::samples::roads::road;
 use reference::samples::sheet_fields::sheet_of;
 use reference::samples::station_cases::named_sheets;
 use reference::sheet::read;
+use std::cell::LazyCell;
 
 const SEED: u64 = 5;
 /// How many sheets of 64 curves, and of one.
@@ -22,6 +24,9 @@ pub struct Inputs {
     pub single: Vec<Road>,
     /// The curves of the full ones.
     pub curves: Vec<Curve>,
+    /// Lines by their points. The reference's table of sines, with which they are
+    /// made, takes long: only jobs that use them wait for it.
+    pub surveys: LazyCell<Surveys>,
 }
 
 /// A sheet, its line in numbers, and the station of its peg.
@@ -43,6 +48,7 @@ impl Inputs {
             curves: curves.collect(),
             full,
             single,
+            surveys: LazyCell::new(Surveys::make),
         }
     }
 
@@ -50,10 +56,13 @@ impl Inputs {
     pub fn words(&self) -> String {
         let simple = self.curves.iter().filter(|curve| curve.l == 0).count();
         format!(
-            "{} sheets of 64 curves, {} sheets of 1 curve, {} curves ({simple} without spirals)",
+            "{} sheets of 64 curves, {} sheets of 1 curve, {} curves ({simple} without spirals), \
+             {} lines of 66 points, {} lines of 3 points",
             self.full.len(),
             self.single.len(),
             self.curves.len(),
+            self.surveys.full.len(),
+            self.surveys.single.len(),
         )
     }
 }

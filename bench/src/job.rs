@@ -1,8 +1,9 @@
 //! The jobs: a call, and the inputs that it is made with one after the other.
 
-use crate::baseline;
+use crate::baseline::Baseline;
 use crate::inputs::{Inputs, Road};
 use crate::side::Side;
+use reference::samples::surveys::Survey;
 use std::hint::black_box;
 
 /// The call of a job.
@@ -15,10 +16,18 @@ pub enum Task {
     Peg,
     Check,
     Text,
+    Points,
     Elements,
 }
 
-/// How many curves the sheets of a job have.
+impl Task {
+    /// Whether it is timed in plain C too.
+    pub fn in_c(self) -> bool {
+        matches!(self, Task::Points | Task::Elements)
+    }
+}
+
+/// How many curves the sheets or lines of a job have.
 #[derive(Clone, Copy, PartialEq, Eq)]
 pub enum Size {
     Full,
@@ -35,7 +44,7 @@ pub struct Job {
     size: Size,
 }
 
-pub const JOBS: [Job; 15] = [
+pub const JOBS: [Job; 17] = [
     full("read-64", "read, 64 curves", Task::Read),
     full("write-64", "written, 64 curves", Task::Write),
     full("rewrite-64", "read and written, 64 curves", Task::Rewrite),
@@ -54,6 +63,8 @@ pub const JOBS: [Job; 15] = [
     single("peg-1", "read, peg calculated, 1 curve", Task::Peg),
     single("check-1", "checked, 1 curve (*)", Task::Check),
     single("text-1", "text, 1 curve", Task::Text),
+    full("points-64", "line from 66 points", Task::Points),
+    single("points-1", "line from 3 points", Task::Points),
     full("elements", "elements of one curve", Task::Elements),
 ];
 
@@ -95,9 +106,18 @@ impl Job {
         }
     }
 
+    /// The lines of the job, by their points.
+    pub fn surveys(self, inputs: &Inputs) -> &[Survey] {
+        match self.size {
+            Size::Full => &inputs.surveys.full,
+            Size::Single => &inputs.surveys.single,
+        }
+    }
+
     /// How many inputs the job goes through.
     pub fn input_count(self, inputs: &Inputs) -> usize {
         match self.task {
+            Task::Points => self.surveys(inputs).len(),
             Task::Elements => inputs.curves.len(),
             _ => self.roads(inputs).len(),
         }
@@ -109,9 +129,16 @@ impl Job {
 pub fn work<S: Side>(job: Job, side: &mut S, inputs: &Inputs, times: usize) {
     for _ in 0..times {
         match job.task {
+            Task::Points => each_survey(side, job.surveys(inputs)),
             Task::Elements => each_curve(side, inputs),
             task => each_road(task, side, job.roads(inputs)),
         }
+    }
+}
+
+fn each_survey<S: Side>(side: &mut S, surveys: &[Survey]) {
+    for survey in surveys {
+        keep(side.line_from_points(black_box(survey)));
     }
 }
 
@@ -137,18 +164,28 @@ fn each_road<S: Side>(task: Task, side: &mut S, roads: &[Road]) {
             Task::Peg => keep(side.peg(sheet, black_box(*station))),
             Task::Check => keep(side.check(sheet)),
             Task::Text => keep(side.text(sheet)),
-            Task::Elements => unreachable!("elements are worked out by curve"),
+            Task::Points | Task::Elements => unreachable!("they have inputs of their own"),
         }
     }
 }
 
-/// The C baseline's elements of each curve, and that `times` times.
+/// The same in plain C, where it has the job.
 #[inline(never)]
-pub fn work_baseline(inputs: &Inputs, times: usize) {
-    let mut numbers = [0.0; 6];
-    for curve in (0..times).flat_map(|_| &inputs.curves) {
-        baseline::elements(*black_box(curve), &mut numbers);
-        black_box(&numbers);
+pub fn work_baseline(job: Job, baseline: &mut Baseline, inputs: &Inputs, times: usize) {
+    for _ in 0..times {
+        match job.task {
+            Task::Points => {
+                for survey in job.surveys(inputs) {
+                    keep(baseline.line_from_points(black_box(survey)));
+                }
+            }
+            Task::Elements => {
+                for curve in &inputs.curves {
+                    keep(baseline.elements(*black_box(curve)));
+                }
+            }
+            _ => unreachable!("it is not timed in C"),
+        }
     }
 }
 

@@ -4,6 +4,8 @@ use crate::side::{Answer, Refused, Side};
 use pokyandi::{Refusal, ELEMENT_NUMBERS, LINE_NUMBERS, PEG_NUMBERS};
 use pokyandi::{ROW_NUMBERS, SHEET_BYTES, TEXT_BYTES};
 use reference::curve::Curve;
+use reference::points::Heading;
+use reference::samples::surveys::Survey;
 
 pub struct Library {
     line: [u32; LINE_NUMBERS],
@@ -69,6 +71,13 @@ impl Side for Library {
     fn text(&mut self, sheet: &[u8]) -> Answer<&[u8]> {
         let count = pokyandi::text(sheet, &mut self.text)?;
         Ok(&self.text[..count])
+    }
+
+    fn line_from_points(&mut self, survey: &Survey) -> Answer<&[u32]> {
+        let Heading { v, e, start } = survey.heading;
+        let (points, curves) = (&survey.points, &survey.curves);
+        let count = pokyandi::from_points(v, e, start, points, curves, &mut self.line)?;
+        Ok(&self.line[..count])
     }
 
     fn elements(&mut self, Curve { a, r, l }: Curve) -> Answer<()> {

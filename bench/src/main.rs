@@ -1,5 +1,5 @@
-//! Times the proved library against the reference, and against plain C for the
-//! elements of one curve.
+//! Times the proved library against the reference, and against plain C for a line
+//! from points and the elements of one curve.
 
 mod arguments;
 mod baseline;
@@ -12,12 +12,14 @@ mod measure;
 mod programs;
 mod reference_side;
 mod side;
+mod surveys;
 mod table;
 
 use arguments::{Options, Request, USAGE};
+use baseline::Baseline;
 use compare::{compare, largest_baseline_difference};
 use inputs::Inputs;
-use job::{work, work_baseline, Job, Task, JOBS, PEG_BESIDE_STATIONS};
+use job::{work, work_baseline, Job, JOBS, PEG_BESIDE_STATIONS};
 use library::Library;
 use measure::{alternate, time, Work};
 use reference_side::Reference;
@@ -60,13 +62,14 @@ fn answer(request: Request) -> Result<(), String> {
 fn once(job: &str, side: &str, times: usize) -> Result<(), String> {
     let job = Job::named(job).ok_or(format!("{job} is no job"))?;
     let inputs = Inputs::make();
-    match (side, job.task) {
-        ("library", _) => work(job, &mut Library::new(), &inputs, times),
-        ("reference", _) => work(job, &mut Reference::new(), &inputs, times),
-        ("c", Task::Elements) => work_baseline(&inputs, times),
+    let calls = times * job.input_count(&inputs);
+    match side {
+        "library" => work(job, &mut Library::new(), &inputs, times),
+        "reference" => work(job, &mut Reference::new(), &inputs, times),
+        "c" if job.task.in_c() => work_baseline(job, &mut Baseline::new(), &inputs, times),
         _ => return Err(format!("{side} is no side of this job")),
     }
-    println!("{}", times * job.input_count(&inputs));
+    println!("{calls}");
     Ok(())
 }
 
@@ -96,8 +99,8 @@ fn measure_all(options: &Options) -> Result<(), String> {
 
 fn print_preface(options: &Options, inputs: &Inputs) {
     let rounds = options.rounds();
-    println!("Medians of {rounds} rounds, library and reference in turn.");
-    println!("Ratio: library / reference, below 1 where the library is faster.");
+    println!("Medians of {rounds} rounds, library, reference and C in turn.");
+    println!("Ratio: library / reference, and library / C, below 1 where the library is faster.");
     println!("Inputs, in turn: {}.", inputs.words());
     println!("Buffers are used again and not cleared first.");
     println!("All answers are compared before they are timed.\n");
@@ -114,7 +117,8 @@ fn print_notes(inputs: &Inputs, process: Option<f64>, rates: Option<String>) {
         println!("(***) Times of one sheet, read from its file, in metres. {rates}");
     }
     let difference = largest_baseline_difference(inputs);
-    println!("C f64: plain C with libm, no checks; at most {difference:.1} µm from the library.");
+    println!("C: plain C with libm. Lines from points with every check, and the same answers;");
+    println!("elements in f64 without checks, at most {difference:.1} µm from the library.");
 }
 
 /// The time of a peg over that of the stations of the same sheets.
@@ -152,8 +156,11 @@ fn works(job: Job, inputs: &Inputs, times: usize) -> Vec<Work<'_>> {
         sure(move || work(job, &mut library, inputs, times)),
         sure(move || work(job, &mut reference, inputs, times)),
     ];
-    if job.task == Task::Elements {
-        works.push(sure(move || work_baseline(inputs, times)));
+    if job.task.in_c() {
+        let mut baseline = Baseline::new();
+        works.push(sure(move || {
+            work_baseline(job, &mut baseline, inputs, times)
+        }));
     }
     works
 }

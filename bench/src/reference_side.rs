@@ -8,8 +8,10 @@ use reference::curve::Curve;
 use reference::elements::{elements, Elements};
 use reference::line_numbers;
 use reference::pegs::{peg, PEG_NUMBERS};
+use reference::points::from_points;
 use reference::refusal::Refusal;
 use reference::report::report;
+use reference::samples::surveys::Survey;
 use reference::sheet;
 use reference::stations::stations;
 
@@ -87,6 +89,12 @@ impl Side for Reference {
     fn text(&mut self, sheet: &[u8]) -> Answer<&[u8]> {
         self.text = report(sheet);
         Ok(self.text.as_bytes())
+    }
+
+    fn line_from_points(&mut self, survey: &Survey) -> Answer<&[u32]> {
+        let (points, curves) = (&survey.points, &survey.curves);
+        let count = from_points(survey.heading, points, curves, &mut self.line)?;
+        Ok(&self.line[..count])
     }
 
     fn elements(&mut self, Curve { a, r, l }: Curve) -> Answer<()> {

@@ -1,6 +1,7 @@
 //! What is timed: the calls that library and reference both have.
 
 use reference::curve::Curve;
+use reference::samples::surveys::Survey;
 
 /// Number and place of a refusal.
 #[derive(Clone, Copy, Debug, PartialEq, Eq)]
@@ -34,6 +35,9 @@ pub trait Side {
 
     /// What the station program prints for the sheet.
     fn text(&mut self, sheet: &[u8]) -> Answer<&[u8]>;
+
+    /// The line through points in numbers.
+    fn line_from_points(&mut self, survey: &Survey) -> Answer<&[u32]>;
 
     /// Works out the elements of a curve and keeps them.
     fn elements(&mut self, curve: Curve) -> Answer<()>;

@@ -4,27 +4,36 @@ use crate::measure::Times;
 
 pub fn print_heading() {
     println!(
-        "{:<42} {:>12} {:>13} {:>7}  {:<16} {:>12}",
-        "call", "library, ns", "reference, ns", "ratio", "its middle half", "C f64, ns"
+        "{:<42} {:>12} {:>13} {:>7}  {:<16} {:>13} {:>7}  its middle half",
+        "call", "library, ns", "reference, ns", "ratio", "its middle half", "C, ns", "ratio"
     );
 }
 
-/// A row; `third` is the time of the C baseline.
-pub fn print_row(title: &str, library: &Times, reference: &Times, third: Option<&Times>) {
-    let (own, other) = (library.median(), reference.median());
-    let (low, high) = library.ratio_quartiles(reference);
-    let third = third.map_or(String::new(), |times| format!("{:.1}", times.median()));
-    let row = format!(
-        "{title:<42} {own:>12.1} {other:>13.1} {:>7.2}  {:<16} {third:>12}",
-        own / other,
-        format!("{low:.2} to {high:.2}"),
-    );
+/// A row; `c` is the time of the C baseline.
+pub fn print_row(title: &str, library: &Times, reference: &Times, c: Option<&Times>) {
+    let own = library.median();
+    let reference = beside(library, reference);
+    let c = c.map_or(String::new(), |c| beside(library, c));
+    let row = format!("{title:<42} {own:>12.1} {reference} {c}");
     println!("{}", row.trim_end());
+}
+
+/// Another time, the ratio of the library's to it, and the ratio's middle half.
+fn beside(library: &Times, other: &Times) -> String {
+    let ratio = library.median() / other.median();
+    let half = middle_half(library, other);
+    format!("{:>13.1} {ratio:>7.2}  {half:<16}", other.median())
+}
+
+/// Of the ratios by round.
+fn middle_half(times: &Times, others: &Times) -> String {
+    let (low, high) = times.ratio_quartiles(others);
+    format!("{low:.2} to {high:.2}")
 }
 
 /// The ratio of the medians, and the middle half of the ratios by round.
 pub fn print_ratio(name: &str, times: &Times, others: &Times) {
-    let (low, high) = times.ratio_quartiles(others);
     let ratio = times.median() / others.median();
-    println!("  {name}: {ratio:.2}, its middle half {low:.2} to {high:.2}");
+    let half = middle_half(times, others);
+    println!("  {name}: {ratio:.2}, its middle half {half}");
 }
