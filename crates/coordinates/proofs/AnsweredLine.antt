@@ -1,8 +1,8 @@
 -- What holds of a line that is answered: it passes the calculator's checks, its unused entries are zero, each distance is the one whole number
 -- whose square is not above the sum of the squares while the next one's is, and each deflection is the one whole second that the legs reach
 -- while they do not reach the next. Assumes nothing.
-use mathlib.Core.Path.{_≡_, refl, sym, _∙_, ap, subst}
-use mathlib.Core.Bool.{Bool, true, not, _&&_}
+use mathlib.Core.Path.{_≡_, refl, sym, subst}
+use mathlib.Core.Bool.{not, _&&_}
 use mathlib.Core.List.{List}
 use Prim.Native.Nat.{ℕ, suc, _+_, _*_, _<_, _≤_}
 use native.Mathlib.Omega.{arith}
@@ -16,14 +16,12 @@ use Rattle.refusals.specs.Order.{outcome}
 use Rattle.refusals.proofs.Joining.{passed-left, passed-right, need-holds}
 use Rattle.refusals.proofs.InTurn.{each-passes}
 use Rattle.line.specs.declared.Curve.{Curve}
-use Rattle.line.specs.declared.Line.{Line}
 use Rattle.line.specs.Checks.{blankCurve, curveAt, distanceAt}
 use Rattle.line.specs.Entries.{entries, cleared}
 use Rattle.line.proofs.Entries.{entries-same}
 use Rattle.arithmetic.proofs.Largest.{root-within}
 use Rattle.turns.specs.Turn.{reached, turnOf}
 use Rattle.turns.proofs.OneTurn.{turn-most, turn-is-last, last-is-turn}
-use Rattle.stationing.specs.Answer.{alignmentChecks}
 use Rattle.coordinates.specs.Legs.{curveCount, legAt, lengthOf, crossAt, dotAt}
 use Rattle.coordinates.specs.FromPoints.{distanceFrom, deflectionFrom, curveFrom, lineFrom, turnChecks, fromPointsChecks}
 use Rattle.coordinates.specs.AnsweredLine.{squares, Turning, Answered}

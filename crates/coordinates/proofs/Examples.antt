@@ -14,7 +14,7 @@ use Rattle.line.specs.Entries.{entries}
 use Rattle.arithmetic.specs.Largest.{largest, rootOf}
 use Rattle.arithmetic.proofs.Largest.{root-is}
 use Rattle.elements.specs.WorkingRule.{fullAngle, term, alternating, sineOf, cosineOf}
-use Rattle.turns.specs.Turn.{reached, turnOf, LastReached}
+use Rattle.turns.specs.Turn.{reached, LastReached}
 use Rattle.turns.proofs.OneTurn.{last-is-turn}
 use Rattle.turns.proofs.Examples.{turns}
 use Rattle.stationing.specs.Stations.{stationRow}

@@ -1,9 +1,8 @@
 -- Exchanging north and south changes the side of every curve, and nothing else. Assumes nothing.
 use mathlib.Core.Path.{_≡_, refl, sym, _∙_, ap}
-use mathlib.Core.Bool.{Bool, true, false, not, _&&_}
+use mathlib.Core.Bool.{true, not, _&&_}
 use mathlib.Core.List.{List, [], _∷_}
 use Prim.Native.Nat.{ℕ, zero, suc, _+_, _*_, _<_, _≤_}
-use native.Mathlib.Decide.{decLt}
 use native.Mathlib.Omega.{arith}
 use lib.Dec.{leb, ltb}
 use lib.IntN.{ℤ, pos, negsuc, negℤ, natAbs, _+ℤ_, _-ℤ_, _*ℤ_, negℤ-negℤ}
@@ -25,10 +24,10 @@ use Rattle.turns.specs.Turn.{reached, turnOf}
 use Rattle.turns.proofs.OneTurn.{no-cross}
 use Rattle.coordinates.specs.declared.Leg.{Leg}
 use Rattle.coordinates.specs.Legs.{curveCount, coordinateAt, legAt, lengthOf, crossOf, dotOf, crossAt, dotAt}
-use Rattle.coordinates.specs.FromPoints.{distanceFrom, deflectionFrom, curveFrom, lineFrom, countChecks, coordinateCheck, lengthCheck, turnChecks, fromPointsChecks}
+use Rattle.coordinates.specs.FromPoints.{distanceFrom, deflectionFrom, curveFrom, lineFrom, countChecks, coordinateCheck, turnChecks, fromPointsChecks}
 use Rattle.coordinates.specs.Moves.{changed, mirrored, otherSide, otherSides}
 use Rattle.coordinates.proofs.Accepted.{turns-pass}
-use Rattle.coordinates.proofs.Changed.{same-length, east-at, north-at, east-step, north-step}
+use Rattle.coordinates.proofs.Changed.{same-length, east-step, north-step}
 use Rattle.coordinates.proofs.Counts.{Counted, counts-pass}
 use Rattle.coordinates.proofs.SameShape.{SameShape, curve-is, same-count, same-counts, same-deflection, same-refusals}
 

@@ -15,9 +15,8 @@ use Rattle.refusals.proofs.Replied.{same-reply}
 use Rattle.line.specs.Checks.{blankCurve}
 use Rattle.line.specs.Entries.{entries}
 use Rattle.line.proofs.Entries.{entries-same}
-use Rattle.coordinates.specs.declared.Leg.{Leg}
 use Rattle.coordinates.specs.Legs.{curveCount, coordinateAt, legAt, lengthOf, crossOf, dotOf, crossAt, dotAt}
-use Rattle.coordinates.specs.FromPoints.{distanceFrom, deflectionFrom, curveFrom, lineFrom, countChecks, coordinateCheck, fromPointsChecks}
+use Rattle.coordinates.specs.FromPoints.{distanceFrom, curveFrom, lineFrom, countChecks, coordinateCheck, fromPointsChecks}
 use Rattle.coordinates.specs.Moves.{moved}
 use Rattle.coordinates.proofs.Changed.{same-length, east-step, north-step}
 use Rattle.coordinates.proofs.Counts.{Counted, counts-pass}

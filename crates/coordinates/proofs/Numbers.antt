@@ -1,5 +1,5 @@
 -- The checks of a line from points refuse with 3 to 20 alone, at places up to 64. Assumes nothing.
-use Prim.Native.Nat.{ℕ, _≤_}
+use Prim.Native.Nat.{ℕ}
 use mathlib.Core.List.{List}
 use native.Mathlib.Omega.{arith}
 use lib.IntN.{ℤ}

@@ -1,11 +1,11 @@
 -- Points of the same shape, with the same lengths, dot products and sizes of the cross products: they have the same distances and
 -- deflections, and the same refusals but for 18. Assumes nothing.
 use mathlib.Core.Path.{_≡_, refl, sym, _∙_, ap}
-use mathlib.Core.Bool.{Bool, not, _&&_}
+use mathlib.Core.Bool.{not, _&&_}
 use mathlib.Core.List.{List}
-use Prim.Native.Nat.{ℕ, suc, _+_, _-_, _*_, _/_, _%_, _<_, _≤_}
+use Prim.Native.Nat.{ℕ, suc, _-_, _*_, _/_, _%_, _<_, _≤_}
 use native.Mathlib.Omega.{arith}
-use lib.Dec.{leb, ltb, eqb}
+use lib.Dec.{ltb, eqb}
 use lib.IntN.{ℤ, pos, natAbs}
 use lib.ListN.{length}
 use lib.Signed.{ltZ}
@@ -14,16 +14,14 @@ use Rattle.refusals.specs.Order.{inTurn, outcome}
 use Rattle.refusals.proofs.Joining.{join}
 use Rattle.refusals.proofs.InTurn.{alike-in-turn}
 use Rattle.line.specs.declared.Curve.{Curve}
-use Rattle.line.specs.declared.Line.{Line}
 use Rattle.line.specs.Checks.{within, distanceCheck, blankCurve, curveAt, distanceAt}
 use Rattle.line.specs.Ranges.{AlikeWhereUsed}
 use Rattle.line.proofs.Entries.{entries-get}
 use Rattle.turns.specs.Turn.{reached, turnOf}
-use Rattle.stationing.specs.Answer.{alignmentChecks}
 use Rattle.orders.proofs.Unused.{same-checks}
 use Rattle.coordinates.specs.Legs.{curveCount, crossAt, dotAt}
 use Rattle.coordinates.specs.FromPoints.{distanceFrom, deflectionFrom, curveFrom, lineFrom, countChecks, coordinateCheck, lengthCheck, turnChecks, fromPointsChecks}
-use Rattle.coordinates.proofs.Counts.{Counted, counts-pass}
+use Rattle.coordinates.proofs.Counts.{counts-pass}
 
 pub record SameShape (p q : List ℤ) : Type 0 where
   pub distance : (i : ℕ) → i ≤ curveCount p → distanceFrom p i ≡ distanceFrom q i

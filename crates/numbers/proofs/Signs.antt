@@ -1,7 +1,7 @@
 -- Whole numbers with their sign turned: sizes, products, and which side of zero they lie on. Assumes nothing.
 use mathlib.Core.Path.{_≡_, refl, sym, _∙_, ap}
 use mathlib.Core.Bool.{not}
-use Prim.Native.Nat.{ℕ, zero, suc}
+use Prim.Native.Nat.{zero, suc}
 use native.Mathlib.Omega.{arith}
 use lib.IntN.{ℤ, pos, negsuc, negℤ, natAbs, _+ℤ_, _-ℤ_, _*ℤ_, negℤ-negℤ, negℤ-+ℤ, +ℤ-assoc, +ℤ-comm, +ℤ-idl, +ℤ-invr, *ℤ-comm, *ℤ-negsuc, *ℤ-zero}
 use lib.Signed.{ltZ}

@@ -3,7 +3,7 @@ use mathlib.Core.Path.{_≡_, refl, sym, _∙_, ap}
 use Rattle.refusals.specs.declared.Refusal.{Refusal}
 use Rattle.refusals.specs.declared.Verdict.{Verdict}
 use Rattle.refusals.specs.declared.Verdict.the-variants.{Pass, Refused}
-use Rattle.refusals.specs.Outcomes.{passed, outcomeOf, _▹_}
+use Rattle.refusals.specs.Outcomes.{passed, outcomeOf}
 use Rattle.refusals.specs.Order.{Checks, _⨾_, outcome}
 use Rattle.refusals.proofs.Joining.{refused-first}
 use Rattle.line.specs.declared.Line.{Line}

@@ -15,7 +15,7 @@ use Rattle.line.specs.Checks.{blankCurve}
 use Rattle.turns.specs.Turn.{turnOrWide}
 use Rattle.stationing.specs.Answer.{alignmentChecks}
 use Rattle.coordinates.specs.Legs.{curveCount}
-use Rattle.coordinates.specs.FromPoints.{distanceFrom, curveFrom, lineFrom, lengthCheck, turnChecks}
+use Rattle.coordinates.specs.FromPoints.{distanceFrom, curveFrom, lineFrom, lengthCheck, turnChecks, fromPointsChecks}
 use Rattle.points.specs.declared.FromPoints.{FromPoints}
 use Rattle.points.specs.declared.making.Curves.{Curves}
 use Rattle.points.specs.declared.making.Distances.{Distances}
@@ -52,3 +52,7 @@ legChecks v e start points designs =
     inTurn (lengthCheck points) (suc (curveCount points))
     ⨾ inTurn (turnChecks points) (curveCount points)
     ⨾ alignmentChecks (lineFrom v e start points designs)
+
+-- All checks of the call, and its line.
+abbrev pub MadeFrom : (v e start : ℕ) → List ℤ → List ℕ → FromPoints → Type 0
+MadeFrom v e start points curves made = Made (fromPointsChecks v e start points curves) (lineFrom v e start points curves) made

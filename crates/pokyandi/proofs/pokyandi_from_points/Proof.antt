@@ -4,10 +4,6 @@ use Rattle.pokyandi.specs.Answers.{answerNumber}
 use borrow.Author.Needs.{needs}
 use Rattle.pokyandi.proofs.pokyandi_from_points.Statement.{statement}
 use Rattle.pokyandi.proofs.pokyandi_from_points.Tie as tie
-use Rattle.pokyandi.proofs.pokyandi_from_points.Reads as reads
-use Rattle.pokyandi.proofs.pokyandi_from_points.Lts as lts
-use Rattle.pokyandi.proofs.answer.answer_number.Reads as answer-number-reads
-use Rattle.pokyandi.proofs.lines.point_numbers.Reads as point-numbers-reads
 
 point-numbers-requires : tie.Need-point-numbers-requires
 point-numbers-requires c κs = search needs

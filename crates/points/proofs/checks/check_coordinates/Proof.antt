@@ -16,9 +16,6 @@ use Rattle.coordinates.specs.Legs.{coordinateAt}
 use Rattle.coordinates.specs.FromPoints.{coordinateCheck}
 use Rattle.points.proofs.checks.check_coordinates.Statement.{statement}
 use Rattle.points.proofs.checks.check_coordinates.Tie as tie
-use Rattle.points.proofs.checks.check_coordinates.Reads as reads
-use Rattle.points.proofs.checks.check_coordinates.Lts as lts
-use Rattle.points.proofs.checks.in_range.Reads as in-range-reads
 
 abbrev Inv-loop : tie.InvT-loop
 Inv-loop points k₀ k = (k ≤ length points) × (outcome (inTurn (coordinateCheck points) k) ≡ passed)

@@ -5,9 +5,6 @@ use Rattle.coordinates.proofs.Counts.{counts-refused, counts-decided}
 use borrow.Author.Needs.{needs}
 use Rattle.points.proofs.checks.check_counts.Statement.{statement}
 use Rattle.points.proofs.checks.check_counts.Tie as tie
-use Rattle.points.proofs.checks.check_counts.Reads as reads
-use Rattle.points.proofs.checks.check_counts.Lts as lts
-use Rattle.refusals.proofs.must.Reads as must-reads
 
 returns : tie.Need-returns
 returns c = counts-refused _ _ (λ h. absurd (omega (arith, h .numbers, c .if1 .taken)))

@@ -3,8 +3,6 @@ use mir.Facts.{toZ-ofZ}
 use Rattle.points.proofs.Sizes.{below-range, above-range}
 use Rattle.points.proofs.checks.in_range.Statement.{statement}
 use Rattle.points.proofs.checks.in_range.Tie as tie
-use Rattle.points.proofs.checks.in_range.Reads as reads
-use Rattle.points.proofs.checks.in_range.Lts as lts
 
 returns : tie.Need-returns
 returns c = below-range (c .before .args .coordinate) (rw (toZ-ofZ (c .before .fits .coordinate)) at (c .if1 .taken))

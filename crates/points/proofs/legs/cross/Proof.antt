@@ -7,10 +7,6 @@ use Rattle.points.proofs.Sizes.{held}
 use borrow.Author.Needs.{needs}
 use Rattle.points.proofs.legs.cross.Statement.{statement}
 use Rattle.points.proofs.legs.cross.Tie as tie
-use Rattle.points.proofs.legs.cross.Reads as reads
-use Rattle.points.proofs.legs.cross.Lts as lts
-use Rattle.points.proofs.legs.minus.Reads as minus-reads
-use Rattle.points.proofs.legs.times.Reads as times-reads
 
 times-requires : tie.Need-times-requires
 times-requires c κs = search needs

@@ -8,10 +8,6 @@ use Rattle.points.proofs.Sizes.{held, side, root-fits}
 use borrow.Author.Needs.{needs}
 use Rattle.points.proofs.legs.distance.Statement.{statement}
 use Rattle.points.proofs.legs.distance.Tie as tie
-use Rattle.points.proofs.legs.distance.Reads as reads
-use Rattle.points.proofs.legs.distance.Lts as lts
-use Rattle.arithmetic.proofs.root.Reads as root-reads
-use Rattle.points.proofs.legs.size.Reads as size-reads
 
 size-requires : tie.Need-size-requires
 size-requires c κs = rw (held (c .before .args .leg .east) (omega (arith, c .before .pre .east))) (omega (arith, c .before .pre .east))

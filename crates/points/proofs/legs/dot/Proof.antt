@@ -7,10 +7,6 @@ use Rattle.points.proofs.Sizes.{held}
 use borrow.Author.Needs.{needs}
 use Rattle.points.proofs.legs.dot.Statement.{statement}
 use Rattle.points.proofs.legs.dot.Tie as tie
-use Rattle.points.proofs.legs.dot.Reads as reads
-use Rattle.points.proofs.legs.dot.Lts as lts
-use Rattle.points.proofs.legs.plus.Reads as plus-reads
-use Rattle.points.proofs.legs.times.Reads as times-reads
 
 times-requires : tie.Need-times-requires
 times-requires c κs = search needs

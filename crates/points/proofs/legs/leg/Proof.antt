@@ -4,9 +4,6 @@ use Rattle.points.proofs.Sizes.{held}
 use borrow.Author.Needs.{needs}
 use Rattle.points.proofs.legs.leg.Statement.{statement}
 use Rattle.points.proofs.legs.leg.Tie as tie
-use Rattle.points.proofs.legs.leg.Reads as reads
-use Rattle.points.proofs.legs.leg.Lts as lts
-use Rattle.points.proofs.legs.step.Reads as step-reads
 
 mul-step : tie.Need-mul-step
 mul-step c = search needs

@@ -6,9 +6,6 @@ use Rattle.points.proofs.Sizes.{held}
 use borrow.Author.Needs.{needs}
 use Rattle.points.proofs.legs.step.Statement.{statement}
 use Rattle.points.proofs.legs.step.Tie as tie
-use Rattle.points.proofs.legs.step.Reads as reads
-use Rattle.points.proofs.legs.step.Lts as lts
-use Rattle.points.proofs.legs.minus.Reads as minus-reads
 
 add-minus : tie.Need-add-minus
 add-minus c = search needs

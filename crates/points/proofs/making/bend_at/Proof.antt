@@ -1,5 +1,5 @@
 -- `bend_at`: the products are those of the two legs at the PI. Assumes nothing.
-use mathlib.Core.Path.{_≡_, _∙_, ap}
+use mathlib.Core.Path.{_∙_, ap}
 use native.Mathlib.Numerals.{add-one}
 use native.Mathlib.Omega.{arith}
 use lib.IntN.{pos}
@@ -10,12 +10,6 @@ use Rattle.points.proofs.Sizes.{held}
 use borrow.Author.Needs.{needs}
 use Rattle.points.proofs.making.bend_at.Statement.{statement}
 use Rattle.points.proofs.making.bend_at.Tie as tie
-use Rattle.points.proofs.making.bend_at.Reads as reads
-use Rattle.points.proofs.making.bend_at.Lts as lts
-use Rattle.points.proofs.legs.cross.Reads as cross-reads
-use Rattle.points.proofs.legs.dot.Reads as dot-reads
-use Rattle.points.proofs.legs.leg.Reads as leg-reads
-use Rattle.points.proofs.making.seconds.Reads as seconds-reads
 
 leg-requires : tie.Need-leg-requires
 leg-requires c κs = search needs

@@ -4,10 +4,6 @@ use Rattle.refusals.proofs.Joining.{join}
 use borrow.Author.Needs.{needs}
 use Rattle.points.proofs.making.check_turn.Statement.{statement}
 use Rattle.points.proofs.making.check_turn.Tie as tie
-use Rattle.points.proofs.making.check_turn.Reads as reads
-use Rattle.points.proofs.making.check_turn.Lts as lts
-use Rattle.refusals.proofs.first.Reads as first-reads
-use Rattle.refusals.proofs.must.Reads as must-reads
 
 must-requires : tie.Need-must-requires
 must-requires c κs = search needs

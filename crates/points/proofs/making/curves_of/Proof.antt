@@ -1,7 +1,6 @@
 -- `curves_of`: the loop keeps that the first i turns pass, with their curves. Assumes nothing.
 use mathlib.Core.Path.{_≡_, refl, sym, _∙_, ap}
-use Prim.Native.Nat.{ℕ, suc, _+_, _-_, _*_, _≤_}
-use native.Mathlib.Numerals.{add-one}
+use Prim.Native.Nat.{ℕ, _-_, _*_, _≤_}
 use native.Mathlib.Omega.{arith}
 use lib.ListN.{length}
 use borrow.Author.Needs.{needs}
@@ -18,11 +17,6 @@ use Rattle.points.specs.Steps.{Usable}
 use Rattle.points.proofs.Checked.{turn-refused, curve-found}
 use Rattle.points.proofs.making.curves_of.Statement.{statement}
 use Rattle.points.proofs.making.curves_of.Tie as tie
-use Rattle.points.proofs.making.curves_of.Reads as reads
-use Rattle.points.proofs.making.curves_of.Lts as lts
-use Rattle.points.proofs.making.bend_at.Reads as bend-at-reads
-use Rattle.points.proofs.making.check_turn.Reads as check-turn-reads
-use Rattle.points.proofs.making.no_curves.Reads as no-curves-reads
 
 abbrev Inv-loop : tie.InvT-loop
 Inv-loop points designs n found₀ i₀ found i =

@@ -1,7 +1,6 @@
 -- `distances_of`: the loop keeps that the first i distances are in range, with their values. Assumes nothing.
 use mathlib.Core.Path.{_≡_, refl, sym, _∙_, ap}
 use Prim.Native.Nat.{ℕ, suc, _-_, _≤_}
-use native.Mathlib.Numerals.{add-one}
 use native.Mathlib.Omega.{arith}
 use borrow.Author.Needs.{needs}
 use Rattle.refusals.specs.declared.Verdict.the-variants.{Pass}
@@ -17,11 +16,6 @@ use Rattle.points.proofs.Checked.{length-checked}
 use Rattle.coordinates.specs.Legs.{lengthOf}
 use Rattle.points.proofs.making.distances_of.Statement.{statement}
 use Rattle.points.proofs.making.distances_of.Tie as tie
-use Rattle.points.proofs.making.distances_of.Reads as reads
-use Rattle.points.proofs.making.distances_of.Lts as lts
-use Rattle.line.proofs.check_distance.Reads as check-distance-reads
-use Rattle.points.proofs.legs.distance.Reads as distance-reads
-use Rattle.points.proofs.legs.leg.Reads as leg-reads
 
 abbrev Inv-loop : tie.InvT-loop
 Inv-loop points n found₀ i₀ found i =

@@ -3,10 +3,6 @@ use Rattle.points.proofs.MadeInTurn.{made-passed, made-refused}
 use borrow.Author.Needs.{needs}
 use Rattle.points.proofs.making.judged.Statement.{statement}
 use Rattle.points.proofs.making.judged.Tie as tie
-use Rattle.points.proofs.making.judged.Reads as reads
-use Rattle.points.proofs.making.judged.Lts as lts
-use Rattle.calculator.proofs.line_lengths.Reads as line-lengths-reads
-use Rattle.points.proofs.making.no_line.Reads as no-line-reads
 
 line-lengths-requires : tie.Need-line-lengths-requires
 line-lengths-requires c κs = search needs

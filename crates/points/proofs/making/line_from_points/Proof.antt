@@ -1,21 +1,14 @@
 -- `line_from_points`: counts, then coordinates, then the line of the legs. Assumes nothing.
-use mathlib.Core.Path.{_≡_, sym, _∙_, ap}
-use Rattle.refusals.specs.Outcomes.{passed, outcomeOf}
-use Rattle.refusals.specs.Order.{outcome}
-use Rattle.coordinates.specs.FromPoints.{lineFrom, fromPointsChecks}
+use mathlib.Core.Path.{sym, _∙_, ap}
+use Rattle.refusals.specs.Outcomes.{outcomeOf}
+use Rattle.coordinates.specs.FromPoints.{fromPointsChecks}
 use Rattle.coordinates.proofs.Counts.{counts-pass}
-use Rattle.points.specs.Steps.{Made}
+use Rattle.points.specs.Steps.{MadeFrom}
 use Rattle.points.proofs.InReach.{usable}
 use Rattle.points.proofs.MadeInTurn.{first-refused, first-passed}
 use borrow.Author.Needs.{needs}
 use Rattle.points.proofs.making.line_from_points.Statement.{statement}
 use Rattle.points.proofs.making.line_from_points.Tie as tie
-use Rattle.points.proofs.making.line_from_points.Reads as reads
-use Rattle.points.proofs.making.line_from_points.Lts as lts
-use Rattle.points.proofs.checks.check_coordinates.Reads as check-coordinates-reads
-use Rattle.points.proofs.checks.check_counts.Reads as check-counts-reads
-use Rattle.points.proofs.making.line_of_legs.Reads as line-of-legs-reads
-use Rattle.points.proofs.making.no_line.Reads as no-line-reads
 
 check-counts-requires : tie.Need-check-counts-requires
 check-counts-requires c κs = search needs
@@ -33,7 +26,7 @@ returns : tie.Need-returns
 unfolding fromPointsChecks
 returns c =
     let args = c .before .before .before .before .before .args in
-    let made : Made (fromPointsChecks (args .speed) (args .crossfall) (args .start) (args .points .now) (args .curves .now)) (lineFrom (args .speed) (args .crossfall) (args .start) (args .points .now) (args .curves .now)) (c .no-line .result) =
+    let made : MadeFrom (args .speed) (args .crossfall) (args .start) (args .points .now) (args .curves .now) (c .no-line .result) =
     first-refused _ _ _ _ (c .before .before .before .check-counts .ensures) (c .before .enum-told2 .given .1) (c .no-line .ensures) in
     (made .checked, made .line)
 
@@ -54,7 +47,7 @@ unfolding fromPointsChecks
 returns-2 c =
     let counted = sym (c .before .before .before .before .before .before .check-counts .ensures) ∙ ap outcomeOf (c .before .before .before .before .enum-told .given .1) in
     let args = c .before .before .before .before .before .before .before .before .args in
-    let made : Made (fromPointsChecks (args .speed) (args .crossfall) (args .start) (args .points .now) (args .curves .now)) (lineFrom (args .speed) (args .crossfall) (args .start) (args .points .now) (args .curves .now)) (c .no-line2 .result) =
+    let made : MadeFrom (args .speed) (args .crossfall) (args .start) (args .points .now) (args .curves .now) (c .no-line2 .result) =
     first-passed _ _ _ counted
     (first-refused _ _ _ _ (c .before .before .before .check-coordinates .ensures) (c .before .enum-told4 .given .1) (c .no-line2 .ensures)) in
     (made .checked, made .line)
@@ -71,7 +64,7 @@ returns-3 c =
     let counted = sym (c .before .before .before .before .before .before .check-counts .ensures) ∙ ap outcomeOf (c .before .before .before .before .enum-told .given .1) in
     let ranged = sym (c .before .before .before .check-coordinates .ensures) ∙ ap outcomeOf (c .before .enum-told3 .given .1) in
     let args = c .before .before .before .before .before .before .before .before .args in
-    let made : Made (fromPointsChecks (args .speed) (args .crossfall) (args .start) (args .points .now) (args .curves .now)) (lineFrom (args .speed) (args .crossfall) (args .start) (args .points .now) (args .curves .now)) (c .line-of-legs .result) =
+    let made : MadeFrom (args .speed) (args .crossfall) (args .start) (args .points .now) (args .curves .now) (c .line-of-legs .result) =
     first-passed _ _ _ counted (first-passed _ _ _ ranged (c .line-of-legs .ensures)) in
     (made .checked, made .line)
 

@@ -1,22 +1,15 @@
 -- `line_of_legs`: distances, then curves, then the calculator's verdict of their line. Assumes nothing.
 use mathlib.Core.Path.{_≡_, sym, _∙_, ap, subst}
 use Rattle.refusals.specs.Outcomes.{outcomeOf}
-use Rattle.refusals.specs.Order.{_⨾_, inTurn}
 use Rattle.stationing.specs.Answer.{alignmentChecks}
 use Rattle.line.specs.declared.Line.{Line}
 use Rattle.coordinates.specs.Legs.{curveCount}
-use Rattle.coordinates.specs.FromPoints.{lineFrom, lengthCheck, turnChecks}
+use Rattle.coordinates.specs.FromPoints.{lineFrom}
 use Rattle.points.specs.Steps.{Made}
 use Rattle.points.proofs.MadeInTurn.{first-refused, first-passed}
 use borrow.Author.Needs.{needs}
 use Rattle.points.proofs.making.line_of_legs.Statement.{statement}
 use Rattle.points.proofs.making.line_of_legs.Tie as tie
-use Rattle.points.proofs.making.line_of_legs.Reads as reads
-use Rattle.points.proofs.making.line_of_legs.Lts as lts
-use Rattle.points.proofs.making.curves_of.Reads as curves-of-reads
-use Rattle.points.proofs.making.distances_of.Reads as distances-of-reads
-use Rattle.points.proofs.making.judged.Reads as judged-reads
-use Rattle.points.proofs.making.no_line.Reads as no-line-reads
 
 sub-n : tie.Need-sub-n
 sub-n c = search needs

@@ -7,10 +7,6 @@ use Rattle.points.specs.Steps.{secondsOf}
 use borrow.Author.Needs.{needs}
 use Rattle.points.proofs.making.seconds.Statement.{statement}
 use Rattle.points.proofs.making.seconds.Tie as tie
-use Rattle.points.proofs.making.seconds.Reads as reads
-use Rattle.points.proofs.making.seconds.Lts as lts
-use Rattle.points.proofs.legs.size.Reads as size-reads
-use Rattle.turns.proofs.turn.Reads as turn-reads
 
 returns : tie.Need-returns
 unfolding secondsOf

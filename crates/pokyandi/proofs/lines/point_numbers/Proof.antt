@@ -6,10 +6,6 @@ use Rattle.pokyandi.proofs.Replies.{points-reply}
 use borrow.Author.Needs.{needs}
 use Rattle.pokyandi.proofs.lines.point_numbers.Statement.{statement}
 use Rattle.pokyandi.proofs.lines.point_numbers.Tie as tie
-use Rattle.pokyandi.proofs.lines.point_numbers.Reads as reads
-use Rattle.pokyandi.proofs.lines.point_numbers.Lts as lts
-use Rattle.line_numbers.proofs.write.Reads as write-reads
-use Rattle.points.proofs.line_from_points.Reads as line-from-points-reads
 
 line-from-points-requires : tie.Need-line-from-points-requires
 line-from-points-requires c κs = search needs
