@@ -4,6 +4,7 @@ pub mod Accepted
 pub mod Numbers
 pub mod Changed
 pub mod SameShape
+pub mod ChangedLegs
 pub mod MovedPoints
 pub mod MirroredPoints
 pub mod AnsweredLine

@@ -60,6 +60,13 @@ pub not-negative : (x : ℤ) → ltZ x (pos 0) ≡ false → T (nonNeg x)
 not-negative (pos a) e = tt
 not-negative (negsuc a) e = absurd (let z : _≡_ {A = ℕ} 0 1 = cc in omega arith)
 
+-- A product of two sides of legs, as the code takes it.
+pub product-held : (x y : ℤ) → natAbs x ≤ 20000000 → natAbs y ≤ 20000000 → {r : ℤ}
+    → (r ≡ toZ w64 (ofZ w64 x) *ℤ toZ w64 (ofZ w64 y)) × (natAbs r ≤ 400000000000000)
+    → (toZ w64 (ofZ w64 r) ≡ x *ℤ y) × (natAbs (toZ w64 (ofZ w64 r)) ≤ 400000000000000)
+product-held x y f g {r} e =
+    rw (held r (omega (arith, e .1))) (rw (held x (omega arith), held y (omega arith)) at (e .0), e .1)
+
 -- ---- lengths
 
 -- The size of a leg either way, as the code takes it, and its square.
