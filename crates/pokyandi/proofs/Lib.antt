@@ -4,3 +4,4 @@ pub mod ReadAndWrite
 pub mod Elements
 pub mod AnswersTold
 pub mod Examples
+pub mod PointsToStations
