@@ -20,7 +20,7 @@ use Rattle.line.specs.Checks.{blankCurve, curveAt, distanceAt}
 use Rattle.line.specs.Entries.{entries, cleared}
 use Rattle.line.proofs.Entries.{entries-same}
 use Rattle.arithmetic.proofs.Largest.{root-within}
-use Rattle.turns.specs.Turn.{reached, turnOf}
+use Rattle.turns.specs.Turn.{reached, deflectionOf}
 use Rattle.turns.proofs.OneTurn.{turn-most, turn-is-last, last-is-turn}
 use Rattle.coordinates.specs.Legs.{curveCount, legAt, lengthOf, crossAt, dotAt}
 use Rattle.coordinates.specs.FromPoints.{distanceFrom, deflectionFrom, curveFrom, lineFrom, turnChecks, fromPointsChecks}
@@ -39,12 +39,12 @@ passed-turn points i e =
     let dot = natAbs (dotAt points i) in
     let narrow = not (reached cross dot 216001) in
     let first = need (ltZ (pos 0) (dotAt points i) && narrow) 20 (suc i) in
-    let second = need (ltb 0 (turnOf cross dot)) 19 (suc i) in
+    let second = need (ltb 0 (deflectionOf cross dot)) 19 (suc i) in
     let both = need-holds (ltZ (pos 0) (dotAt points i) && narrow) 20 (suc i) (passed-left first second e) in
     record {
       side = refl;
       ahead = both-left (ltZ (pos 0) (dotAt points i)) narrow both;
-      least = ltb-true 0 (turnOf cross dot) (need-holds (ltb 0 (turnOf cross dot)) 19 (suc i) (passed-right first second e));
+      least = ltb-true 0 (deflectionOf cross dot) (need-holds (ltb 0 (deflectionOf cross dot)) 19 (suc i) (passed-right first second e));
       most = turn-most cross dot;
       last = turn-is-last cross dot (not-true (reached cross dot 216001) (both-right (ltZ (pos 0) (dotAt points i)) narrow both));
       only = last-is-turn cross dot;

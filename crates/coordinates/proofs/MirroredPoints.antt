@@ -17,7 +17,7 @@ use Rattle.refusals.specs.Replying.{reply}
 use Rattle.refusals.proofs.Joining.{passed-left, passed-right, need-holds}
 use Rattle.refusals.proofs.InTurn.{alike-in-turn, each-passes}
 use Rattle.line.specs.Checks.{curveAt}
-use Rattle.turns.specs.Turn.{reached, turnOf}
+use Rattle.turns.specs.Turn.{reached, deflectionOf}
 use Rattle.turns.proofs.OneTurn.{no-cross}
 use Rattle.coordinates.specs.declared.Leg.{Leg}
 use Rattle.coordinates.specs.Legs.{curveCount, coordinateAt, legAt, lengthOf, crossOf, dotOf, crossAt, dotAt}
@@ -73,10 +73,10 @@ no-turn-without-cross points i e none =
     let dot = natAbs (dotAt points i) in
     let narrow = not (reached cross dot 216001) in
     let first = need (ltZ (pos 0) (dotAt points i) && narrow) 20 (suc i) in
-    let second = need (ltb 0 (turnOf cross dot)) 19 (suc i) in
+    let second = need (ltb 0 (deflectionOf cross dot)) 19 (suc i) in
     let ahead = both-left (ltZ (pos 0) (dotAt points i)) narrow (need-holds (ltZ (pos 0) (dotAt points i) && narrow) 20 (suc i) (passed-left first second e)) in
-    let turns = ltb-true 0 (turnOf cross dot) (need-holds (ltb 0 (turnOf cross dot)) 19 (suc i) (passed-right first second e)) in
-    let straight = ap (λ (c : ℕ). turnOf c dot) none ∙ no-cross dot (above-zero (dotAt points i) ahead) in
+    let turns = ltb-true 0 (deflectionOf cross dot) (need-holds (ltb 0 (deflectionOf cross dot)) 19 (suc i) (passed-right first second e)) in
+    let straight = ap (λ (c : ℕ). deflectionOf c dot) none ∙ no-cross dot (above-zero (dotAt points i) ahead) in
     absurd (omega (arith, turns, straight))
 
 turned-keeps : Keeps turned

@@ -17,7 +17,7 @@ use Rattle.line.specs.declared.Curve.{Curve}
 use Rattle.line.specs.Checks.{within, distanceCheck, blankCurve, curveAt, distanceAt}
 use Rattle.line.specs.Ranges.{AlikeWhereUsed}
 use Rattle.line.proofs.Entries.{entries-get}
-use Rattle.turns.specs.Turn.{reached, turnOf}
+use Rattle.turns.specs.Turn.{reached, deflectionOf}
 use Rattle.orders.proofs.Unused.{same-checks}
 use Rattle.coordinates.specs.Legs.{curveCount, crossAt, dotAt}
 use Rattle.coordinates.specs.FromPoints.{distanceFrom, deflectionFrom, curveFrom, lineFrom, countChecks, coordinateCheck, lengthCheck, turnChecks, fromPointsChecks}
@@ -54,7 +54,7 @@ module _ (p q : List ℤ) (counts : length p ≡ length q) where
   module _ (same : SameShape p q) where
     pub same-deflection : (i : ℕ) → i < curveCount p → deflectionFrom p i ≡ deflectionFrom q i
     unfolding deflectionFrom
-    same-deflection i h = λ j. turnOf (same .cross i h j) (natAbs (same .dot i h j))
+    same-deflection i h = λ j. deflectionOf (same .cross i h j) (natAbs (same .dot i h j))
 
     same-lengths : outcome (inTurn (lengthCheck p) (suc (curveCount p))) ≡ outcome (inTurn (lengthCheck q) (suc (curveCount q)))
     unfolding lengthCheck

@@ -12,7 +12,7 @@ use Rattle.line.specs.declared.Curve.{Curve}
 use Rattle.line.specs.declared.Line.{Line}
 use Rattle.line.specs.Checks.{within, distanceCheck, blankCurve}
 use Rattle.line.specs.Entries.{entries}
-use Rattle.turns.specs.Turn.{reached, turnOf}
+use Rattle.turns.specs.Turn.{reached, deflectionOf}
 use Rattle.stationing.specs.Answer.{alignmentChecks}
 use Rattle.coordinates.specs.Legs.{pointCount, curveCount, coordinateAt, legAt, lengthOf, crossAt, dotAt}
 
@@ -25,7 +25,7 @@ distanceFrom points i = lengthOf (legAt points i)
 -- The deflection at entry i: "the largest whole number of seconds s, 0 to 216,000, for which the cross product's size times cosine(s) is at least
 -- the dot product times sine(s)"; the dot product is above zero, or 20 refuses.
 unfoldable pub deflectionFrom : List ℤ → ℕ → ℕ
-deflectionFrom points i = turnOf (natAbs (crossAt points i)) (natAbs (dotAt points i))
+deflectionFrom points i = deflectionOf (natAbs (crossAt points i)) (natAbs (dotAt points i))
 
 -- The curve at entry i: "Side is its sign, positive being left. Radii, spirals .. come beside them".
 unfoldable pub curveFrom : List ℤ → List ℕ → ℕ → Curve

@@ -16,7 +16,7 @@ use Rattle.refusals.specs.Order.{outcome}
 use Rattle.refusals.proofs.Joining.{passed-left, need-holds}
 use Rattle.line.specs.declared.Curve.{Curve}
 use Rattle.line.specs.Checks.{distanceCheck}
-use Rattle.turns.specs.Turn.{reached, turnOf, turnOrWide}
+use Rattle.turns.specs.Turn.{reached, deflectionOf, turnOrWide}
 use Rattle.turns.proofs.OneTurn.{turn-most}
 use Rattle.coordinates.specs.declared.Leg.{Leg}
 use Rattle.coordinates.specs.Legs.{legAt, lengthOf, crossAt, dotAt}
@@ -42,7 +42,7 @@ module _ (points : List ℤ) (i : ℕ) where
 
   -- The turn by the definition, and whether it is too wide.
   abbrev turn : ℕ
-  turn = turnOf (natAbs (crossAt points i)) (natAbs (dotAt points i))
+  turn = deflectionOf (natAbs (crossAt points i)) (natAbs (dotAt points i))
 
   abbrev wide : Bool
   wide = reached (natAbs (crossAt points i)) (natAbs (dotAt points i)) 216001

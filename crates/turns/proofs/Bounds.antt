@@ -4,14 +4,14 @@ use mathlib.Core.Path.{_≡_, sym, _∙_}
 use mathlib.Core.Bool.{true, false}
 use Prim.Native.Nat.{ℕ, _+_, _≤_, _<_}
 use native.Mathlib.Omega.{arith}
-use Rattle.turns.specs.Turn.{reached, turnOf, turnOrWide}
+use Rattle.turns.specs.Turn.{reached, deflectionOf, turnOrWide}
 use Rattle.turns.specs.Search.{Bracket}
 use Rattle.turns.proofs.Seconds.{not-reached-later}
 use Rattle.arithmetic.proofs.Largest.{largest-is, largest-step}
 
 module _ (cross dot : ℕ) where
   pub bracketed : (low high : ℕ) → Bracket cross dot low high → high ≤ low + 1 → low ≡ turnOrWide cross dot
-  unfolding turnOrWide turnOf
+  unfolding turnOrWide deflectionOf
   bracketed low high b near =
       sym (largest-is (reached cross dot) 216001 low (omega (arith, b .apart, b .most)) (b .passes)
       (λ k above most. not-reached-later cross dot high k (omega arith) most (b .fails (omega arith))))

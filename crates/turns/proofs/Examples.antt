@@ -3,7 +3,7 @@ use mathlib.Core.Path.{_≡_, refl, sym}
 use mathlib.Core.Bool.{true, false}
 use native.Mathlib.Omega.{arith}
 use Rattle.elements.specs.WorkingRule.{fullAngle, term, alternating, sineOf, cosineOf}
-use Rattle.turns.specs.Turn.{reached, turnOf, LastReached}
+use Rattle.turns.specs.Turn.{reached, deflectionOf, LastReached}
 use Rattle.turns.proofs.OneTurn.{last-is-turn, no-cross}
 
 pub record Examples : Type 0 where
@@ -32,11 +32,11 @@ examples =
 
 -- The deflections of those products.
 pub record Turns : Type 0 where
-  pub none : turnOf 0 1 ≡ 0
-  pub below-one-second : turnOf 4847 1000000000 ≡ 0
-  pub one-second : turnOf 4848 1000000000 ≡ 1
-  pub equal-products : turnOf 1 1 ≡ 162000
-  pub sixty-degrees : turnOf 866025404 500000000 ≡ 216000
+  pub none : deflectionOf 0 1 ≡ 0
+  pub below-one-second : deflectionOf 4847 1000000000 ≡ 0
+  pub one-second : deflectionOf 4848 1000000000 ≡ 1
+  pub equal-products : deflectionOf 1 1 ≡ 162000
+  pub sixty-degrees : deflectionOf 866025404 500000000 ≡ 216000
 
 pub turns : Turns
 turns =

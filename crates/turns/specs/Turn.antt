@@ -13,12 +13,12 @@ unfoldable pub reached : ℕ → ℕ → ℕ → Bool
 reached cross dot s = leZ (pos dot *ℤ sineOf (fullAngle s)) (pos cross *ℤ cosineOf (fullAngle s))
 
 -- "The deflection is the largest whole number of seconds s, 0 to 216,000, for which" that holds.
-unfoldable pub turnOf : ℕ → ℕ → ℕ
-turnOf cross dot = largest (reached cross dot) 216000
+unfoldable pub deflectionOf : ℕ → ℕ → ℕ
+deflectionOf cross dot = largest (reached cross dot) 216000
 
 -- The deflection, or 216,001 for "a turn where 216,001 also holds".
 unfoldable pub turnOrWide : ℕ → ℕ → ℕ
-turnOrWide cross dot = cond (reached cross dot 216001) 216001 (turnOf cross dot)
+turnOrWide cross dot = cond (reached cross dot 216001) 216001 (deflectionOf cross dot)
 
 -- s is reached, and the next second is not.
 pub record LastReached (cross dot s : ℕ) : Type 0 where
