@@ -12,7 +12,7 @@ use Rattle.refusals.specs.Outcomes.{passed}
 use Rattle.refusals.specs.Order.{inTurn, outcome}
 use Rattle.refusals.proofs.Joining.{need-holds}
 use Rattle.refusals.proofs.InTurn.{each-passes}
-use Rattle.coordinates.specs.Legs.{curveCount, coordinateAt}
+use Rattle.coordinates.specs.Legs.{coordinateAt}
 use Rattle.coordinates.specs.FromPoints.{countChecks, coordinateCheck}
 use Rattle.coordinates.proofs.Counts.{counts-pass}
 use Rattle.points.specs.Reach.{InReach}
@@ -30,7 +30,7 @@ module _ (points : List ℤ) (ranged : outcome (inTurn (coordinateCheck points) 
       go k (no h) =
           subst (λ (z : ℤ). natAbs z ≤ 10000000) (sym (List·getD-eq-default points (pos 0) {n = k} (omega arith))) (omega arith)
 
-  pub usable : (curves : List ℕ) → outcome (countChecks points curves) ≡ passed → Usable points (curveCount points)
-  usable curves e =
-      let counted = counts-pass points curves e in
-      record { few = counted .few; numbers = counted .numbers; in-reach = in-reach }
+  pub usable : (designs : List ℕ) → outcome (countChecks points designs) ≡ passed → Usable points designs
+  usable designs e =
+      let counted = counts-pass points designs e in
+      record { few = counted .few; numbers = counted .numbers; pairs = counted .designs; in-reach = in-reach }

@@ -3,3 +3,4 @@ pub mod Sizes
 pub mod Checked
 pub mod MadeInTurn
 pub mod InReach
+pub mod Filling

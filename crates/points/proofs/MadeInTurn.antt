@@ -1,11 +1,13 @@
 -- A line made by checks one after the other: the first refusal ends it, and the line passes them all. Assumes nothing.
 use mathlib.Core.Path.{_≡_, refl, sym, _∙_, ap}
+use Prim.Native.Nat.{ℕ, _<_}
 use Rattle.refusals.specs.declared.Refusal.{Refusal}
 use Rattle.refusals.specs.declared.Verdict.{Verdict}
 use Rattle.refusals.specs.declared.Verdict.the-variants.{Pass, Refused}
 use Rattle.refusals.specs.Outcomes.{passed, outcomeOf}
-use Rattle.refusals.specs.Order.{Checks, _⨾_, outcome}
+use Rattle.refusals.specs.Order.{Checks, _⨾_, inTurn, outcome}
 use Rattle.refusals.proofs.Joining.{refused-first}
+use Rattle.refusals.proofs.InTurn as turn
 use Rattle.line.specs.declared.Line.{Line}
 use Rattle.line.specs.Entries.{blankLine}
 use Rattle.line.proofs.Beside.{beside-verdict}
@@ -26,6 +28,14 @@ module _ (whole : Line) (v : Verdict) where
   pub first-refused : {r : Refusal} (a b : Checks) {made : FromPoints} → outcomeOf v ≡ outcome a → v ≡ Refused r
       → (made .verdict ≡ v) × (made .line ≡ blankLine) → Made (a ⨾ b) whole made
   first-refused a b o e m = made-refused (refused-first v (outcome a) (outcome b) e o) e m
+
+  -- One of many in turn.
+  pub refused-in-turn : {r : Refusal} (each : ℕ → Checks) (i count : ℕ) (b : Checks) {made : FromPoints} → i < count
+      → outcome (inTurn each i) ≡ passed → outcomeOf v ≡ outcome (each i) → v ≡ Refused r
+      → (made .verdict ≡ v) × (made .line ≡ blankLine) → Made (inTurn each count ⨾ b) whole made
+  refused-in-turn each i count b h before here e m =
+      let told = ap outcomeOf e in
+      first-refused (inTurn each count) b (told ∙ sym (turn.first-refused each i count h before (sym here ∙ told))) e m
 
 -- The first passes, and the others decide.
 pub first-passed : (whole : Line) (a b : Checks) {made : FromPoints} → outcome a ≡ passed → Made b whole made → Made (a ⨾ b) whole made

@@ -3,17 +3,16 @@ ghost use mathlib.Core.Path.{_≡_};
 ghost use Prim.Native.Nat.{_+_, _*_, _<_, _≤_};
 ghost use lib.Dec.{leb, ltb};
 ghost use lib.IntN.{pos, natAbs};
-ghost use lib.ListN.{length, replicate};
+ghost use lib.ListN.{length};
 ghost use lib.Signed.{ltZ};
 ghost use Rattle.refusals.specs.Outcomes.{outcomeOf, need, _▹_};
 ghost use Rattle.refusals.specs.Order.{outcome};
-ghost use Rattle.line.specs.Checks.{blankCurve};
 ghost use Rattle.line.specs.Entries.{lineAfter, blankLine};
 ghost use Rattle.stationing.specs.Answer.{alignmentChecks};
-ghost use Rattle.coordinates.specs.Legs.{curveCount, crossAt, dotAt};
+ghost use Rattle.coordinates.specs.Legs.{crossAt, dotAt};
 ghost use Rattle.coordinates.specs.FromPoints.{lineFrom, fromPointsChecks};
 ghost use Rattle.points.specs.Reach.{InReach};
-ghost use Rattle.points.specs.Steps.{Usable, DistancesOf, secondsOf, CurvesOf, Made, legChecks};
+ghost use Rattle.points.specs.Steps.{Usable, secondsOf, Made, legChecks};
 use crate::FromPoints;
 use crate::checks::check_coordinates;
 use crate::checks::check_counts;
@@ -33,47 +32,10 @@ use refusals::first;
 use refusals::must;
 use turns::turn;
 
-// The distances of a line; beside a refusal they mean nothing.
-struct Distances {
-    verdict: Verdict,
-    distances: [u32; 65],
-}
-
 // The turn at a PI: to the left or else to the right, and by how many seconds; 216,001 for every turn that 20 refuses.
 struct Bend {
     left: bool,
     seconds: u32,
-}
-
-// The curves of a line; beside a refusal they mean nothing.
-struct Curves {
-    verdict: Verdict,
-    curves: [Curve; 64],
-}
-
-// Refusal 8, by ascending distance, and the distances of n curves.
-fn distances_of(points: &[i64], n: usize) -> Distances
-    requires { ⌜ Usable (now points) n ⌝ }
-    ensures { λ d. ⌜ DistancesOf (now (points .entry)) n d ⌝ }
-{
-    let mut found = Distances {
-        verdict: Verdict::Pass,
-        distances: [0; 65],
-    };
-    let mut i = 0;
-    while i <= n {
-        let mm = distance(leg(points, i));
-        let ranged = check_distance(mm, i as u16);
-        let Verdict::Pass = ranged else {
-            return Distances {
-                verdict: ranged,
-                distances: [0; 65],
-            };
-        };
-        found.distances[i] = mm;
-        i += 1;
-    }
-    found
 }
 
 // The turn of two legs, in seconds of arc; 216,001 for every turn over 216,000, and where the legs do not go on ahead.
@@ -111,45 +73,6 @@ fn check_turn(turned: u32, place: u16) -> Verdict
     first(wide, none)
 }
 
-// A verdict, with curves whose fields are all zero.
-fn no_curves(verdict: Verdict) -> Curves
-    ensures { λ c. ⌜ (c .verdict ≡ verdict) × (c .curves ≡ replicate 64 blankCurve) ⌝ }
-{
-    Curves {
-        verdict,
-        curves: [Curve {
-            left: false,
-            deflection: 0,
-            radius: 0,
-            spiral: 0,
-        }; 64],
-    }
-}
-
-// Refusals 20 and 19, point by point, and the n curves, whose radii and spirals stand in `designs`.
-fn curves_of(points: &[i64], designs: &[u32], n: usize) -> Curves
-    requires { ⌜ Usable (now points) n × (length (now designs) ≡ 2 * n) ⌝ }
-    ensures { λ c. ⌜ CurvesOf (now (points .entry)) (now (designs .entry)) n c ⌝ }
-{
-    let mut found = no_curves(Verdict::Pass);
-    let mut i = 0;
-    while i < n {
-        let bend = bend_at(points, i);
-        let turns = check_turn(bend.seconds, (i + 1) as u16);
-        let Verdict::Pass = turns else {
-            return no_curves(turns);
-        };
-        found.curves[i] = Curve {
-            left: bend.left,
-            deflection: bend.seconds,
-            radius: designs[2 * i],
-            spiral: designs[2 * i + 1],
-        };
-        i += 1;
-    }
-    found
-}
-
 // A refusal, with no line.
 fn no_line(verdict: Verdict) -> FromPoints
     ensures { λ r. ⌜ (r .verdict ≡ verdict) × (r .line ≡ blankLine) ⌝ }
@@ -172,7 +95,7 @@ fn judged(line: Line) -> FromPoints
     }
 }
 
-// The line of points that pass 3 and 18, or the first refusal.
+// The line of points that pass 3 and 18, or the first refusal: 8 by ascending distance, 20 and 19 point by point, then the calculator's.
 fn line_of_legs(
     points: &[i64],
     designs: &[u32],
@@ -180,30 +103,41 @@ fn line_of_legs(
     crossfall: u32,
     start: u32,
 ) -> FromPoints
-    requires { ⌜ Usable (now points) (curveCount (now points)) × (length (now designs) ≡ 2 * curveCount (now points)) ⌝ }
+    requires { ⌜ Usable (now points) (now designs) ⌝ }
     ensures { λ r. ⌜ Made (legChecks speed crossfall start (now (points .entry)) (now (designs .entry))) (lineFrom speed crossfall start (now (points .entry)) (now (designs .entry))) r ⌝ }
 {
     let n = points.len() / 2 - 2;
-    let straights = distances_of(points, n);
-    let lengths = straights.verdict;
-    let Verdict::Pass = lengths else {
-        return no_line(lengths);
-    };
-    let bends = curves_of(points, designs, n);
-    let turns = bends.verdict;
-    let Verdict::Pass = turns else {
-        return no_line(turns);
-    };
-    let distances = straights.distances;
-    let curves = bends.curves;
-    judged(Line {
-        speed,
-        crossfall,
-        start,
-        count: n,
-        distances,
-        curves,
-    })
+    let mut line = blank_line();
+    line.speed = speed;
+    line.crossfall = crossfall;
+    line.start = start;
+    line.count = n;
+    let mut i = 0;
+    while i <= n {
+        let mm = distance(leg(points, i));
+        let ranged = check_distance(mm, i as u16);
+        let Verdict::Pass = ranged else {
+            return no_line(ranged);
+        };
+        line.distances[i] = mm;
+        i += 1;
+    }
+    let mut k = 0;
+    while k < n {
+        let bend = bend_at(points, k);
+        let turns = check_turn(bend.seconds, (k + 1) as u16);
+        let Verdict::Pass = turns else {
+            return no_line(turns);
+        };
+        line.curves[k] = Curve {
+            left: bend.left,
+            deflection: bend.seconds,
+            radius: designs[2 * k],
+            spiral: designs[2 * k + 1],
+        };
+        k += 1;
+    }
+    judged(line)
 }
 
 // The line of n + 2 points, whose coordinates stand in `points`, east and north of each in turn, in whole mm; `curves` has the radius and

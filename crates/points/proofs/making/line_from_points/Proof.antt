@@ -2,7 +2,6 @@
 use mathlib.Core.Path.{sym, _∙_, ap}
 use Rattle.refusals.specs.Outcomes.{outcomeOf}
 use Rattle.coordinates.specs.FromPoints.{fromPointsChecks}
-use Rattle.coordinates.proofs.Counts.{counts-pass}
 use Rattle.points.specs.Steps.{MadeFrom}
 use Rattle.points.proofs.InReach.{usable}
 use Rattle.points.proofs.MadeInTurn.{first-refused, first-passed}
@@ -56,7 +55,7 @@ line-of-legs-requires : tie.Need-line-of-legs-requires
 line-of-legs-requires c κs =
     let counted = sym (c .before .before .before .before .before .check-counts .ensures) ∙ ap outcomeOf (c .before .before .before .enum-told .given .1) in
     let ranged = sym (c .before .before .check-coordinates .ensures) ∙ ap outcomeOf (c .enum-told3 .given .1) in
-    (usable _ ranged _ counted, counts-pass _ _ counted .designs)
+    usable _ ranged _ counted
 
 returns-3 : tie.Need-returns-3
 unfolding fromPointsChecks
