@@ -4,17 +4,19 @@ use mathlib.Core.List.{List, [], _∷_}
 use Prim.Native.Nat.{ℕ}
 use native.Mathlib.Omega.{arith}
 use lib.IntN.{ℤ, pos, negsuc}
+use lib.ListN.{replicate}
+use mathlib.Core.Bool.{true}
 use Rattle.refusals.specs.Outcomes.{Outcome, passed, refused, firstOf}
 use Rattle.refusals.specs.Order.{outcome}
 use Rattle.refusals.specs.Replying.{answered, reply}
 use Rattle.refusals.proofs.Filled.{found}
 use Rattle.refusals.proofs.Replied.{passed-reply}
-use Rattle.line.specs.Checks.{distanceCheck}
+use Rattle.line.specs.Checks.{distanceCheck, headChecks, lineChecks}
 use Rattle.line.specs.Entries.{entries}
 use Rattle.arithmetic.specs.Largest.{largest, rootOf}
 use Rattle.arithmetic.proofs.Largest.{root-is}
 use Rattle.elements.specs.WorkingRule.{fullAngle, term, alternating, sineOf, cosineOf}
-use Rattle.turns.specs.Turn.{reached, LastReached}
+use Rattle.turns.specs.Turn.{reached, deflectionOf, LastReached}
 use Rattle.turns.proofs.OneTurn.{last-is-turn}
 use Rattle.turns.proofs.Examples.{turns}
 use Rattle.stationing.specs.Stations.{stationRow}
@@ -110,7 +112,7 @@ distance-1 : distanceFrom points1 1 ≡ 400000
 unfolding lengthOf
 distance-1 = sym (root-is 160000558237 400000 (omega arith) (omega arith))
 
-last-second : LastReached 151807000000 130210500000 177764
+last-second : LastReached 151807000000 (pos 130210500000) 177764
 unfolding reached fullAngle term alternating sineOf cosineOf
 last-second = record { here = refl; not-next = refl }
 
@@ -133,3 +135,73 @@ checks-1 = rw (distance-0, distance-1, deflection-1, line-1, aligned) refl
 
 pub case-1 : reply (fromPointsChecks 70 8 0 points1 one) (lineFrom 70 8 0 points1 one) ≡ answered (caseLine 500000 350000 40000)
 case-1 = sym (passed-reply (fromPointsChecks 70 8 0 points1 one) (lineFrom 70 8 0 points1 one) checks-1 (sym line-1))
+
+-- ---- the edges of each check, and the entry of a second curve
+
+-- What is said of points with a speed that is refused, once all before it holds.
+abbrev passes : List ℤ → List ℕ → Outcome
+passes points curves = outcome (fromPointsChecks 45 8 0 points curves)
+
+-- One second: 1 mm aside on 206.266 m; and 60°: 362 mm aside on 209.
+abbrev slight : List ℤ
+slight = before (pos 206267) (pos 1)
+
+abbrev sixty : List ℤ
+sixty = before (pos 210) (negsuc 361)
+
+-- 45° to the left twice.
+abbrev twice : List ℤ
+twice = pos 0 ∷ pos 0 ∷ pos 1 ∷ pos 0 ∷ pos 2 ∷ pos 1 ∷ pos 2 ∷ pos 2 ∷ []
+
+slight-length : rootOf 42545662757 ≡ 206266
+slight-length = sym (root-is 42545662757 206266 (omega arith) (omega arith))
+
+sixty-length : rootOf 174725 ≡ 418
+sixty-length = sym (root-is 174725 418 (omega arith) (omega arith))
+
+one-second-last : LastReached 1 (pos 206266) 1
+unfolding reached fullAngle term alternating sineOf cosineOf
+one-second-last = record { here = refl; not-next = refl }
+
+sixty-last : LastReached 362 (pos 209) 216000
+unfolding reached fullAngle term alternating sineOf cosineOf
+sixty-last = record { here = refl; not-next = refl }
+
+one-second : deflectionOf 1 (pos 206266) ≡ 1
+one-second = sym (last-is-turn 1 206266 1 (omega arith) one-second-last)
+
+sixty-degrees : deflectionOf 362 (pos 209) ≡ 216000
+sixty-degrees = sym (last-is-turn 362 209 216000 (omega arith) sixty-last)
+
+root-1 : rootOf 1 ≡ 1
+root-1 = sym (root-is 1 1 (omega arith) (omega arith))
+
+slight-passes : passes slight one ≡ refused 4 0
+unfolding fromPointsChecks countChecks coordinateCheck lengthCheck turnChecks distanceCheck headChecks lineChecks alignmentChecks firstOf deflectionFrom lengthOf crossOf dotOf reached fullAngle term alternating sineOf cosineOf lineFrom
+slight-passes = rw (root-1, slight-length, one-second) refl
+
+sixty-passes : passes sixty one ≡ refused 4 0
+unfolding fromPointsChecks countChecks coordinateCheck lengthCheck turnChecks distanceCheck headChecks lineChecks alignmentChecks firstOf deflectionFrom lengthOf crossOf dotOf reached fullAngle term alternating sineOf cosineOf lineFrom
+sixty-passes = rw (root-1, sixty-length, sixty-degrees) refl
+
+pub record Edges : Type 0 where
+  pub most-points : outcome (countChecks (replicate 132 (pos 0)) (replicate 128 0)) ≡ passed
+  pub over-most-points : outcome (countChecks (replicate 134 (pos 0)) (replicate 130 0)) ≡ refused 3 0
+  pub at-the-limit : passes (pos 10000000 ∷ negsuc 9999999 ∷ pos 9999999 ∷ negsuc 9999999 ∷ []) [] ≡ refused 4 0
+  pub turn-of-1 : passes slight one ≡ refused 4 0
+  pub turn-of-216000 : passes sixty one ≡ refused 4 0
+  pub second-curve : curveFrom twice (350000 ∷ 40000 ∷ 300000 ∷ 30000 ∷ []) 1 ≡ record { left = true; deflection = 162000; radius = 300000; spiral = 30000 }
+  pub given : (lineFrom 70 8 5 twice two .speed ≡ 70) × (lineFrom 70 8 5 twice two .crossfall ≡ 8) × (lineFrom 70 8 5 twice two .start ≡ 5)
+
+pub edges : Edges
+unfolding fromPointsChecks countChecks coordinateCheck lengthCheck turnChecks distanceCheck headChecks lineChecks alignmentChecks firstOf deflectionFrom lengthOf crossOf dotOf rootOf largest reached fullAngle term alternating sineOf cosineOf curveFrom lineFrom
+edges =
+    record {
+      most-points = refl;
+      over-most-points = refl;
+      at-the-limit = refl;
+      turn-of-1 = slight-passes;
+      turn-of-216000 = sixty-passes;
+      second-curve = rw (turns .equal-products) refl;
+      given = (refl, refl, refl);
+    }

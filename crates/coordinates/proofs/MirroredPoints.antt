@@ -1,16 +1,16 @@
 -- Exchanging north and south changes the side of every curve, and nothing else. Assumes nothing.
 use mathlib.Core.Path.{_≡_, refl, sym, _∙_, ap}
-use mathlib.Core.Bool.{true, not, _&&_}
+use mathlib.Core.Bool.{not, _&&_}
 use mathlib.Core.List.{List, [], _∷_}
-use Prim.Native.Nat.{ℕ, zero, suc, _+_, _*_, _<_, _≤_}
+use Prim.Native.Nat.{ℕ, zero, suc, _+_, _*_, _<_}
 use native.Mathlib.Omega.{arith}
 use lib.Dec.{leb, ltb}
-use lib.IntN.{ℤ, pos, negsuc, negℤ, natAbs, _+ℤ_, _-ℤ_, _*ℤ_, negℤ-negℤ}
+use lib.IntN.{ℤ, pos, negℤ, natAbs, _+ℤ_, _-ℤ_, _*ℤ_, negℤ-negℤ}
 use lib.ListN.{length}
 use lib.Signed.{ltZ}
 use borrow.Author.Tests.{ltb-true}
 use Rattle.numbers.proofs.Tests.{both-left}
-use Rattle.numbers.proofs.Signs.{size-negative, times-negative, negative-times, negative-difference, other-side}
+use Rattle.numbers.proofs.Signs.{above-zero, size-negative, times-negative, negative-times, negative-difference, other-side}
 use Rattle.refusals.specs.Outcomes.{passed, need}
 use Rattle.refusals.specs.Order.{inTurn, outcome}
 use Rattle.refusals.specs.Replying.{reply}
@@ -30,10 +30,6 @@ use Rattle.coordinates.proofs.SameShape.{curve-is}
 use Rattle.coordinates.proofs.ChangedLegs.{Keeps, product, curve-with, line-with, answer-with}
 
 -- ---- legs with north and south exchanged
-
-above-zero : (z : ℤ) → ltZ (pos 0) z ≡ true → 1 ≤ natAbs z
-above-zero (pos n) e = ltb-true 0 n e
-above-zero (negsuc n) e = omega arith
 
 abbrev turned : Leg → Leg
 turned leg = record { east = leg .east; north = negℤ (leg .north) }
@@ -70,13 +66,13 @@ no-turn-without-cross : (points : List ℤ) (i : ℕ) → outcome (turnChecks po
 unfolding turnChecks deflectionFrom
 no-turn-without-cross points i e none =
     let cross = natAbs (crossAt points i) in
-    let dot = natAbs (dotAt points i) in
+    let dot = dotAt points i in
     let narrow = not (reached cross dot 216001) in
-    let first = need (ltZ (pos 0) (dotAt points i) && narrow) 20 (suc i) in
+    let first = need (ltZ (pos 0) dot && narrow) 20 (suc i) in
     let second = need (ltb 0 (deflectionOf cross dot)) 19 (suc i) in
-    let ahead = both-left (ltZ (pos 0) (dotAt points i)) narrow (need-holds (ltZ (pos 0) (dotAt points i) && narrow) 20 (suc i) (passed-left first second e)) in
+    let ahead = above-zero dot (both-left (ltZ (pos 0) dot) narrow (need-holds (ltZ (pos 0) dot && narrow) 20 (suc i) (passed-left first second e))) in
     let turns = ltb-true 0 (deflectionOf cross dot) (need-holds (ltb 0 (deflectionOf cross dot)) 19 (suc i) (passed-right first second e)) in
-    let straight = ap (λ (c : ℕ). deflectionOf c dot) none ∙ no-cross dot (above-zero (dotAt points i) ahead) in
+    let straight = ap (λ (c : ℕ). deflectionOf c dot) none ∙ ap (deflectionOf 0) (sym (ahead .0)) ∙ no-cross (natAbs dot) (ahead .1) in
     absurd (omega (arith, turns, straight))
 
 turned-keeps : Keeps turned

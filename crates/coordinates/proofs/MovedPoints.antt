@@ -1,12 +1,11 @@
--- Moving all points by the same amount changes nothing, where all coordinates stay in range. Assumes nothing.
-use mathlib.Core.Path.{_≡_, refl, sym, _∙_, ap}
+-- Moving all points by the same amount changes nothing, where 18 says the same of both. Assumes nothing.
+use mathlib.Core.Path.{_≡_, refl, _∙_, ap}
 use mathlib.Core.List.{List}
 use Prim.Native.Nat.{ℕ, _+_, _*_, _<_}
 use lib.IntN.{ℤ, pos, _+ℤ_}
 use lib.ListN.{length}
 use lib.Signed.{ltZ}
 use Rattle.numbers.proofs.Signs.{moved-difference}
-use Rattle.refusals.specs.Outcomes.{passed}
 use Rattle.refusals.specs.Order.{inTurn, outcome}
 use Rattle.refusals.specs.Replying.{reply}
 use Rattle.coordinates.specs.declared.Leg.{Leg}
@@ -37,14 +36,14 @@ module _ (east north : ℤ) (points : List ℤ) where
 
   -- The same answer, line or refusal.
   pub moved-changes-nothing : (v e start : ℕ) (curves : List ℕ)
-      → outcome (inTurn (coordinateCheck points) (length points)) ≡ passed
-      → outcome (inTurn (coordinateCheck (moved east north points)) (length (moved east north points))) ≡ passed
+      → outcome (inTurn (coordinateCheck (moved east north points)) (length (moved east north points)))
+      ≡ outcome (inTurn (coordinateCheck points) (length points))
       → reply (fromPointsChecks v e start (moved east north points) curves) (lineFrom v e start (moved east north points) curves)
       ≡ reply (fromPointsChecks v e start points curves) (lineFrom v e start points curves)
   unfolding lineFrom curveFrom
-  moved-changes-nothing v e start curves here there =
+  moved-changes-nothing v e start curves ranges =
       let other = moved east north points in
-      answer-with unchanged kept points other lengths same-leg curves v e start (lineFrom v e start points curves) (there ∙ sym here)
+      answer-with unchanged kept points other lengths same-leg curves v e start (lineFrom v e start points curves) ranges
       (λ counted accepted.
       line-with unchanged kept points other lengths same-leg curves counted v e start (curveFrom points curves)
       (λ i h.

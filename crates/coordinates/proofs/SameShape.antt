@@ -54,7 +54,7 @@ module _ (p q : List ℤ) (counts : length p ≡ length q) where
   module _ (same : SameShape p q) where
     pub same-deflection : (i : ℕ) → i < curveCount p → deflectionFrom p i ≡ deflectionFrom q i
     unfolding deflectionFrom
-    same-deflection i h = λ j. deflectionOf (same .cross i h j) (natAbs (same .dot i h j))
+    same-deflection i h = λ j. deflectionOf (same .cross i h j) (same .dot i h j)
 
     same-lengths : outcome (inTurn (lengthCheck p) (suc (curveCount p))) ≡ outcome (inTurn (lengthCheck q) (suc (curveCount q)))
     unfolding lengthCheck
@@ -65,7 +65,7 @@ module _ (p q : List ℤ) (counts : length p ≡ length q) where
     same-turn : (i : ℕ) → i < curveCount p → outcome (turnChecks p i) ≡ outcome (turnChecks q i)
     unfolding turnChecks
     same-turn i h = λ j.
-        need (ltZ (pos 0) (same .dot i h j) && not (reached (same .cross i h j) (natAbs (same .dot i h j)) 216001)) 20 (suc i)
+        need (ltZ (pos 0) (same .dot i h j) && not (reached (same .cross i h j) (same .dot i h j) 216001)) 20 (suc i)
         ▹ need (ltb 0 (same-deflection i h j)) 19 (suc i)
 
     same-turns : outcome (inTurn (turnChecks p) (curveCount p)) ≡ outcome (inTurn (turnChecks q) (curveCount q))

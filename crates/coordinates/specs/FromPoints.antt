@@ -23,9 +23,9 @@ abbrev pub distanceFrom : List ℤ → ℕ → ℕ
 distanceFrom points i = lengthOf (legAt points i)
 
 -- The deflection at entry i: "the largest whole number of seconds s, 0 to 216,000, for which the cross product's size times cosine(s) is at least
--- the dot product times sine(s)"; the dot product is above zero, or 20 refuses.
+-- the dot product times sine(s)".
 unfoldable pub deflectionFrom : List ℤ → ℕ → ℕ
-deflectionFrom points i = deflectionOf (natAbs (crossAt points i)) (natAbs (dotAt points i))
+deflectionFrom points i = deflectionOf (natAbs (crossAt points i)) (dotAt points i)
 
 -- The curve at entry i: "Side is its sign, positive being left. Radii, spirals .. come beside them".
 unfoldable pub curveFrom : List ℤ → List ℕ → ℕ → Curve
@@ -69,7 +69,7 @@ lengthCheck points i = distanceCheck (distanceFrom points i) i
 -- 19 and 20 is the curve"
 unfoldable pub turnChecks : List ℤ → ℕ → Checks
 turnChecks points i =
-    check (ltZ (pos 0) (dotAt points i) && not (reached (natAbs (crossAt points i)) (natAbs (dotAt points i)) 216001)) 20 (suc i)
+    check (ltZ (pos 0) (dotAt points i) && not (reached (natAbs (crossAt points i)) (dotAt points i) 216001)) 20 (suc i)
     ⨾ check (ltb 0 (deflectionFrom points i)) 19 (suc i)
 
 -- In the request's order, "all before the calculator's checks 3 to 15" of the line.

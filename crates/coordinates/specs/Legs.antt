@@ -27,8 +27,11 @@ abbrev pub legAt : List ℤ → ℕ → Leg
 legAt points i = record { east = stepAt points (2 * i); north = stepAt points (2 * i + 1) }
 
 -- "A distance is the root of the summed squares, rounded down."
+abbrev pub squares : Leg → ℕ
+squares leg = natAbs (leg .east) * natAbs (leg .east) + natAbs (leg .north) * natAbs (leg .north)
+
 unfoldable pub lengthOf : Leg → ℕ
-lengthOf leg = rootOf (natAbs (leg .east) * natAbs (leg .east) + natAbs (leg .north) * natAbs (leg .north))
+lengthOf leg = rootOf (squares leg)
 
 -- "The cross product is east in × north out − north in × east out, of the legs into and out of the PI."
 unfoldable pub crossOf : Leg → Leg → ℤ

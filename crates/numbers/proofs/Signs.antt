@@ -1,11 +1,12 @@
 -- Whole numbers with their sign turned: sizes, products, and which side of zero they lie on. Assumes nothing.
 use mathlib.Core.Path.{_≡_, refl, sym, _∙_, ap}
-use mathlib.Core.Bool.{not}
-use Prim.Native.Nat.{zero, suc}
+use mathlib.Core.Bool.{true, not}
+use Prim.Native.Nat.{zero, suc, _≤_}
 use native.Mathlib.Omega.{arith}
 use lib.IntN.{ℤ, pos, negsuc, negℤ, natAbs, _+ℤ_, _-ℤ_, _*ℤ_, negℤ-negℤ, negℤ-+ℤ, +ℤ-assoc, +ℤ-comm, +ℤ-idl, +ℤ-invr, *ℤ-comm, *ℤ-negsuc, *ℤ-zero}
 use lib.Signed.{ltZ}
-use borrow.Author.Tests.{lt-ltb}
+use borrow.Author.Tests.{lt-ltb, ltb-true}
+use Rattle.numbers.proofs.Tests.{clash}
 
 pub size-negative : (z : ℤ) → natAbs (negℤ z) ≡ natAbs z
 size-negative (pos zero) = refl
@@ -29,6 +30,11 @@ moved-difference x y e =
     ap (λ (z : ℤ). (x +ℤ e) +ℤ z) (negℤ-+ℤ y e ∙ +ℤ-comm (negℤ y) (negℤ e))
     ∙ +ℤ-assoc x e (negℤ e +ℤ negℤ y)
     ∙ ap (λ (z : ℤ). x +ℤ z) (sym (+ℤ-assoc e (negℤ e) (negℤ y)) ∙ ap (λ (z : ℤ). z +ℤ negℤ y) (+ℤ-invr e) ∙ +ℤ-idl (negℤ y))
+
+-- A number above zero is its size.
+pub above-zero : (z : ℤ) → ltZ (pos 0) z ≡ true → (pos (natAbs z) ≡ z) × (1 ≤ natAbs z)
+above-zero (pos n) e = (refl, ltb-true 0 n e)
+above-zero (negsuc n) e = clash e refl
 
 -- Either a number or its negative is above zero, where it is not zero.
 pub other-side : (z : ℤ) → (natAbs z ≡ 0 → ⊥) → ltZ (pos 0) (negℤ z) ≡ not (ltZ (pos 0) z)

@@ -24,7 +24,7 @@ use Rattle.coordinates.specs.FromPoints.{deflectionFrom, curveFrom, lengthCheck
 use Rattle.points.specs.Steps.{secondsOf}
 
 -- Above zero, or not.
-above-or-not : (z : ℤ) → ltZ (pos 0) z ≡ not (leZ z (pos 0))
+pub above-or-not : (z : ℤ) → ltZ (pos 0) z ≡ not (leZ z (pos 0))
 above-or-not (pos zero) = refl
 above-or-not (pos (suc n)) = lt-ltb 0 (suc n) (omega arith) ∙ sym (ap not (lt-leb (suc n) 0 (omega arith)))
 above-or-not (negsuc n) = refl
@@ -42,10 +42,10 @@ module _ (points : List ℤ) (i : ℕ) where
 
   -- The turn by the definition, and whether it is too wide.
   abbrev turn : ℕ
-  turn = deflectionOf (natAbs (crossAt points i)) (natAbs (dotAt points i))
+  turn = deflectionOf (natAbs (crossAt points i)) (dotAt points i)
 
   abbrev wide : Bool
-  wide = reached (natAbs (crossAt points i)) (natAbs (dotAt points i)) 216001
+  wide = reached (natAbs (crossAt points i)) (dotAt points i) 216001
 
   -- The seconds that were found are refused as the definition says,
   pub turn-checked : TurnOutcome (secondsOf (crossAt points i) (dotAt points i)) (suc i) ≡ outcome (turnChecks points i)

@@ -26,7 +26,7 @@ pub record Usable (points : List ℤ) (designs : List ℕ) : Type 0 where
 
 -- The turn of two legs by their cross and their dot product; 216,001 where 20 refuses.
 unfoldable pub secondsOf : (cross dot : ℤ) → ℕ
-secondsOf cross dot = cond (leZ dot (pos 0)) 216001 (turnOrWide (natAbs cross) (natAbs dot))
+secondsOf cross dot = cond (leZ dot (pos 0)) 216001 (turnOrWide (natAbs cross) dot)
 
 -- These checks, and the line beside their outcome.
 pub record Made (checks : Checks) (whole : Line) (made : FromPoints) : Type 0 where

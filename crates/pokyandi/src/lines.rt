@@ -21,7 +21,7 @@ pub(crate) fn sheet_numbers(sheet: &[u8], numbers: &mut [u32]) -> FillAnswer
     let verdict = read.verdict;
     match verdict {
         Verdict::Pass => line_numbers::write(read.line, &mut *numbers),
-        Verdict::Refused(refusal) => FillAnswer::Refused(refusal),
+        Verdict::Refused(unread) => FillAnswer::Refused(unread),
     }
 }
 
@@ -53,6 +53,6 @@ pub(crate) fn point_numbers(
     let verdict = made.verdict;
     match verdict {
         Verdict::Pass => line_numbers::write(made.line, &mut *numbers),
-        Verdict::Refused(refusal) => FillAnswer::Refused(refusal),
+        Verdict::Refused(unmade) => FillAnswer::Refused(unmade),
     }
 }

@@ -9,7 +9,7 @@ pub enum Refusal {
     Truncated,
     // 2: the edition is not one that can be read.
     Edition,
-    // 3: too many curves.
+    // 3: too many curves or points, too few points, or numbers that do not pair.
     CurveCount,
     // 4: not a design speed.
     Speed,
@@ -43,7 +43,7 @@ pub enum Refusal {
     Coordinate,
     // 19: the legs at the PI do not turn by a second.
     NoTurn(u16),
-    // 20: the legs at the PI turn by more than 60°.
+    // 20: the legs at the PI turn by 216,001 seconds or more.
     WideTurn(u16),
 }
 

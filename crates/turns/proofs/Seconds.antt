@@ -20,11 +20,11 @@ angles-apart s t h = omega arith
 
 -- The test on natural numbers.
 pub reached-by : (cross dot s : ℕ) {u v : ℕ} → pos u ≡ sineOf (fullAngle s) → pos v ≡ cosineOf (fullAngle s)
-    → leb (dot * u) (cross * v) ≡ reached cross dot s
+    → leb (dot * u) (cross * v) ≡ reached cross (pos dot) s
 unfolding reached
 reached-by cross dot s eu ev = rw (← eu, ← ev)
 
-pub reached-earlier : (cross dot s t : ℕ) → s < t → t ≤ 216001 → reached cross dot t ≡ true → reached cross dot s ≡ true
+pub reached-earlier : (cross dot s t : ℕ) → s < t → t ≤ 216001 → reached cross (pos dot) t ≡ true → reached cross (pos dot) s ≡ true
 reached-earlier cross dot s t before most e =
     let later = angles-apart s t before in
     let t-most = turn-angle-most t most in
@@ -43,15 +43,15 @@ reached-earlier cross dot s t before most e =
     ∙ le-leb _ _ (le-trans (mul-le-mul-left dot (le-of-lt up)) (le-trans there (mul-le-mul-left cross down)))
 
 -- No second from one that is not reached on is reached.
-pub not-reached-later : (cross dot s t : ℕ) → s ≤ t → t ≤ 216001 → reached cross dot s ≡ false → reached cross dot t ≡ false
-not-reached-later cross dot s t h most e = go (ltb s t) refl (reached cross dot t) refl
+pub not-reached-later : (cross dot s t : ℕ) → s ≤ t → t ≤ 216001 → reached cross (pos dot) s ≡ false → reached cross (pos dot) t ≡ false
+not-reached-later cross dot s t h most e = go (ltb s t) refl (reached cross (pos dot) t) refl
   where
-    go : (l : Bool) → ltb s t ≡ l → (r : Bool) → reached cross dot t ≡ r → reached cross dot t ≡ false
+    go : (l : Bool) → ltb s t ≡ l → (r : Bool) → reached cross (pos dot) t ≡ r → reached cross (pos dot) t ≡ false
     go false l r q = let same : s ≡ t = omega (arith, ltb-false s t l) in rw (← same) e
     go true l false q = q
     go true l true q = let there = reached-earlier cross dot s t (ltb-true s t l) most q in cc
 
-pub reached-0 : (cross dot : ℕ) → reached cross dot 0 ≡ true
+pub reached-0 : (cross dot : ℕ) → reached cross (pos dot) 0 ≡ true
 unfolding fullAngle term alternating sineOf cosineOf
 reached-0 cross dot =
     sym (reached-by cross dot 0 {u = 0} {v = scale} refl refl) ∙ rw (mul-zero dot) (le-leb 0 (cross * scale) (omega arith))

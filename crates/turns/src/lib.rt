@@ -1,6 +1,7 @@
 // The deflection at a PI by document 02 (N2), from the size of the cross product of the legs into and out of it and from their dot product.
 ghost use mathlib.Core.Path.{_≡_};
 ghost use Prim.Native.Nat.{_≤_};
+ghost use lib.IntN.{pos};
 ghost use Rattle.turns.specs.Turn.{reached, turnOrWide};
 ghost use Rattle.turns.specs.Search.{Bracket};
 use arithmetic::product_at_most;
@@ -9,7 +10,7 @@ use elements::turn_ratios;
 // Whether the legs turn by `seconds` or more.
 fn reaches(cross: u64, dot: u64, seconds: u32) -> bool
     requires { ⌜ seconds ≤ 216001 ⌝ }
-    ensures { λ r. ⌜ r ≡ reached cross dot seconds ⌝ }
+    ensures { λ r. ⌜ r ≡ reached cross (pos dot) seconds ⌝ }
 {
     let ratios = turn_ratios(seconds);
     product_at_most(dot, ratios.sine, cross, ratios.cosine)
@@ -18,7 +19,7 @@ fn reaches(cross: u64, dot: u64, seconds: u32) -> bool
 // The turn between two bounds, by halving: what is reached at a second is reached at each earlier one.
 fn search(cross: u64, dot: u64, from: u32, to: u32) -> u32
     requires { ⌜ Bracket cross dot from to ⌝ }
-    ensures { λ r. ⌜ (r ≡ turnOrWide cross dot) × (r ≤ 216001) ⌝ }
+    ensures { λ r. ⌜ (r ≡ turnOrWide cross (pos dot)) × (r ≤ 216001) ⌝ }
 {
     let mut low = from;
     let mut high = to;
@@ -79,7 +80,7 @@ fn guess(cross: u64, dot: u64) -> u32
 // then one beside it, two tests, which settle it as a rule. Where they do not, the rest, 216,000 seconds at the most, is halved in 18 tests
 // more: 20 at the most.
 pub fn turn(cross: u64, dot: u64) -> u32
-    ensures { λ r. ⌜ (r ≡ turnOrWide cross dot) × (r ≤ 216001) ⌝ }
+    ensures { λ r. ⌜ (r ≡ turnOrWide cross (pos dot)) × (r ≤ 216001) ⌝ }
 {
     let near = guess(cross, dot);
     if reaches(cross, dot, near) {
