@@ -32,7 +32,7 @@ use Rattle.coordinates.proofs.SameShape.{distance-is, curve-is}
 
 -- ---- a turn that passes 20 and 19
 
-passed-turn : (points : List ℤ) (i : ℕ) → outcome (turnChecks points i) ≡ passed
+pub passed-turn : (points : List ℤ) (i : ℕ) → outcome (turnChecks points i) ≡ passed
     → Turning (crossAt points i) (dotAt points i) (ltZ (pos 0) (crossAt points i)) (deflectionFrom points i)
 unfolding turnChecks deflectionFrom
 passed-turn points i e =

@@ -6,7 +6,7 @@ use lib.IntN.{ℤ, negℤ, _+ℤ_}
 use Rattle.line.specs.declared.Curve.{Curve}
 use Rattle.line.specs.declared.Line.{Line}
 use Rattle.line.specs.Checks.{blankCurve, curveAt}
-use Rattle.line.specs.Entries.{entries}
+use Rattle.line.specs.Entries.{entries, entered}
 
 -- Each coordinate to the east changed by `f`, each to the north by `g`.
 unfoldable pub changed : (f g : ℤ → ℤ) → List ℤ → List ℤ
@@ -27,12 +27,4 @@ abbrev pub otherSide : Curve → Curve
 otherSide c = record { left = not (c .left); deflection = c .deflection; radius = c .radius; spiral = c .spiral }
 
 unfoldable pub otherSides : Line → Line
-otherSides line =
-    record {
-      speed = line .speed;
-      crossfall = line .crossfall;
-      start = line .start;
-      count = line .count;
-      distances = line .distances;
-      curves = entries 64 (line .count) (λ i. otherSide (curveAt line i)) blankCurve;
-    }
+otherSides line = entered line (line .distances) (entries 64 (line .count) (λ i. otherSide (curveAt line i)) blankCurve)

@@ -4,6 +4,7 @@ use mathlib.Core.List.{List, [], _∷_}
 use Prim.Native.Nat.{ℕ, zero, suc}
 use lib.ListN.{replicate}
 use Rattle.refusals.specs.Outcomes.{Outcome, passed, refused}
+use Rattle.line.specs.declared.Curve.{Curve}
 use Rattle.line.specs.declared.Line.{Line}
 use Rattle.line.specs.Checks.{distanceAt, blankCurve, curveAt}
 
@@ -28,14 +29,19 @@ abbrev pub lineAfter : Outcome → Line → Line
 lineAfter passed line = line
 lineAfter (refused number place) line = blankLine
 
--- "comes back with its unused entries zero": the line with the used entries alone
-unfoldable pub cleared : Line → Line
-cleared line =
+-- The line with other distances and curves in its entries.
+abbrev pub entered : Line → List ℕ → List Curve → Line
+entered line distances curves =
     record {
       speed = line .speed;
       crossfall = line .crossfall;
       start = line .start;
       count = line .count;
-      distances = entries 65 (suc (line .count)) (distanceAt line) 0;
-      curves = entries 64 (line .count) (curveAt line) blankCurve;
+      distances = distances;
+      curves = curves;
     }
+
+-- "comes back with its unused entries zero": the line with the used entries alone
+unfoldable pub cleared : Line → Line
+cleared line =
+    entered line (entries 65 (suc (line .count)) (distanceAt line) 0) (entries 64 (line .count) (curveAt line) blankCurve)

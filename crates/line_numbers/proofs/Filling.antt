@@ -8,7 +8,7 @@ use lib.ListN.{set}
 use Rattle.line.specs.declared.Curve.{Curve}
 use Rattle.line.specs.declared.Line.{Line}
 use Rattle.line.specs.Checks.{blankCurve}
-use Rattle.line.specs.Entries.{entries, blankLine}
+use Rattle.line.specs.Entries.{entries, entered, blankLine}
 use Rattle.line.proofs.Entries.{entries-set}
 use Rattle.line_numbers.specs.Numbers.{numberAt, distanceOf, curveOf, lineOf}
 
@@ -42,16 +42,7 @@ line-begun numbers e = rw e
 -- One curve more, and the distance after it, at the code's `i + 1`.
 pub line-goes-on : (numbers : List ℕ) (i : ℕ) (l : Line) (c : Curve) (d : ℕ) → i < 64 → l ≡ lineTo numbers i → c ≡ curveOf numbers i
     → d ≡ distanceOf numbers (i + 1)
-    → _≡_ {A = Line}
-    (record {
-      speed = l .speed;
-      crossfall = l .crossfall;
-      start = l .start;
-      count = l .count;
-      distances = set (l .distances) (i + 1) d;
-      curves = set (l .curves) i c;
-    })
-    (lineTo numbers (i + 1))
+    → entered l (set (l .distances) (i + 1) d) (set (l .curves) i c) ≡ lineTo numbers (i + 1)
 unfolding lineTo
 line-goes-on numbers i l c d h e p q =
     rw (e, p, q)

@@ -8,7 +8,7 @@ use lib.ListN.{set}
 use Rattle.line.specs.declared.Curve.{Curve}
 use Rattle.line.specs.declared.Line.{Line}
 use Rattle.line.specs.Checks.{blankCurve}
-use Rattle.line.specs.Entries.{entries, blankLine}
+use Rattle.line.specs.Entries.{entries, blankLine, entered}
 use Rattle.line.proofs.Entries.{entries-set}
 use Rattle.packed_sheet.specs.declared.Head.{Head}
 use Rattle.bits.specs.Bits.{bitsAt, valuesAt}
@@ -56,32 +56,14 @@ module _ (E : Edition) (s : List ℕ) where
   -- One distance and the curve after it more.
   pub entry-read : (i : ℕ) {line : Line} {at d : ℕ} {curve : Curve} → i < 64 → line ≡ lineTo i i → at ≡ entryAt E i
       → d ≡ bitsAt s at distanceWidth → curve ≡ curveFrom (valuesAt s (at + distanceWidth) curveWidths)
-      → _≡_ {A = Line}
-      (record {
-        speed = line .speed;
-        crossfall = line .crossfall;
-        start = line .start;
-        count = line .count;
-        distances = set (line .distances) i d;
-        curves = set (line .curves) i curve;
-      })
-      (lineTo (i + 1) (i + 1))
+      → entered line (set (line .distances) i d) (set (line .curves) i curve) ≡ lineTo (i + 1) (i + 1)
   unfolding lineTo
   entry-read i h l a d c = rw l (λ j. lineWith (headOf E s) (distance-read i (omega arith) a d j) (curve-read i h a c j))
 
   -- The last distance.
   pub last-read : (n : ℕ) {line : Line} {at d : ℕ} → n < 65 → n ≡ countOf E s → line ≡ lineTo n n
       → at ≡ entryAt E n → d ≡ bitsAt s at distanceWidth
-      → _≡_ {A = Line}
-      (record {
-        speed = line .speed;
-        crossfall = line .crossfall;
-        start = line .start;
-        count = line .count;
-        distances = set (line .distances) n d;
-        curves = line .curves;
-      })
-      (lineOf E s)
+      → entered line (set (line .distances) n d) (line .curves) ≡ lineOf E s
   unfolding lineTo lineOf
   last-read n h e l a d =
       rw l

@@ -7,7 +7,7 @@ use lib.ListN.{set}
 use Rattle.line.specs.declared.Curve.{Curve}
 use Rattle.line.specs.declared.Line.{Line}
 use Rattle.line.specs.Checks.{blankCurve}
-use Rattle.line.specs.Entries.{entries, blankLine}
+use Rattle.line.specs.Entries.{entries, entered, blankLine}
 use Rattle.line.proofs.Entries.{entries-set}
 use Rattle.coordinates.specs.Legs.{curveCount}
 use Rattle.coordinates.specs.FromPoints.{distanceFrom, curveFrom, lineFrom}
@@ -29,31 +29,13 @@ module _ (v e start : ℕ) (points : List ℤ) (designs : List ℕ) where
 
   -- One distance more, and one curve more, at the code's `i + 1`.
   pub distance-set : (i mm : ℕ) {l : Line} → i < 65 → l ≡ lineTo i 0 → mm ≡ distanceFrom points i
-      → _≡_ {A = Line}
-      (record {
-        speed = l .speed;
-        crossfall = l .crossfall;
-        start = l .start;
-        count = l .count;
-        distances = set (l .distances) i mm;
-        curves = l .curves;
-      })
-      (lineTo (i + 1) 0)
+      → entered l (set (l .distances) i mm) (l .curves) ≡ lineTo (i + 1) 0
   unfolding lineTo
   distance-set i mm h e d =
       rw (e, d) (λ j. with-entries (entries-set 65 i (distanceFrom points) 0 h j) (entries 64 0 (curveFrom points designs) blankCurve))
 
   pub curve-set : (i k : ℕ) (c : Curve) {l : Line} → k < 64 → l ≡ lineTo i k → c ≡ curveFrom points designs k
-      → _≡_ {A = Line}
-      (record {
-        speed = l .speed;
-        crossfall = l .crossfall;
-        start = l .start;
-        count = l .count;
-        distances = l .distances;
-        curves = set (l .curves) k c;
-      })
-      (lineTo i (k + 1))
+      → entered l (l .distances) (set (l .curves) k c) ≡ lineTo i (k + 1)
   unfolding lineTo
   curve-set i k c h e d =
       rw (e, d) (λ j. with-entries (entries 65 i (distanceFrom points) 0) (entries-set 64 k (curveFrom points designs) blankCurve h j))

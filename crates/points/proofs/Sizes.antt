@@ -48,6 +48,14 @@ small-fits (negsuc a) h = record { sfits = omega arith }
 pub held : (z : ℤ) → natAbs z ≤ 4611686018427387904 → toZ w64 (ofZ w64 z) ≡ z
 held z h = toZ-ofZ (small-fits z h)
 
+-- The code's operation on two numbers, where the result fits.
+module _ (op : ℤ → ℤ → ℤ) (x y : ℤ) (f : SFits w64 x) (g : SFits w64 y) (h : SFits w64 (op x y)) where
+  pub op-fits : SFits w64 (op (toZ w64 (ofZ w64 x)) (toZ w64 (ofZ w64 y)))
+  op-fits = rw (toZ-ofZ f, toZ-ofZ g) h
+
+  pub op-held : toZ w64 (ofZ w64 (op (toZ w64 (ofZ w64 x)) (toZ w64 (ofZ w64 y)))) ≡ op x y
+  op-held = rw (toZ-ofZ f, toZ-ofZ g) (toZ-ofZ h)
+
 -- What a number below zero is taken from zero for.
 pub negative-size : (x : ℤ) → natAbs (pos 0 -ℤ x) ≡ natAbs x
 negative-size x = ap natAbs (+ℤ-idl (negℤ x)) ∙ size-negative x

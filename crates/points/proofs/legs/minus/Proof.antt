@@ -1,12 +1,10 @@
 -- `minus`: the difference fits. Assumes nothing.
-use mathlib.Core.Path.{refl}
 use Prim.Native.Nat.{_≤_}
 use native.Mathlib.Omega.{arith}
 use lib.IntN.{ℤ, natAbs, _-ℤ_}
 use mir.Syntax.{w64}
 use mir.Val.{SFits}
-use mir.Facts.{toZ-ofZ}
-use Rattle.points.proofs.Sizes.{size-difference, small-fits}
+use Rattle.points.proofs.Sizes.{size-difference, small-fits, op-fits, op-held}
 use Rattle.points.proofs.legs.minus.Statement.{statement}
 use Rattle.points.proofs.legs.minus.Tie as tie
 
@@ -14,15 +12,12 @@ fits : (x y : ℤ) → natAbs x ≤ 1000000000000000 → natAbs y ≤ 1000000000
 fits x y f g = small-fits (x -ℤ y) (omega (arith, size-difference x y))
 
 sub-result : tie.Need-sub-result
-sub-result c =
-    rw (toZ-ofZ (c .fits .x), toZ-ofZ (c .fits .y)) (fits (c .args .x) (c .args .y) (c .pre .0) (c .pre .1))
+sub-result c = op-fits _-ℤ_ (c .args .x) (c .args .y) (c .fits .x) (c .fits .y) (fits (c .args .x) (c .args .y) (c .pre .0) (c .pre .1))
 
 returns : tie.Need-returns
 returns c =
-    let x = c .args .x in
-    let y = c .args .y in
-    rw (toZ-ofZ (c .fits .x), toZ-ofZ (c .fits .y), toZ-ofZ (fits x y (c .pre .0) (c .pre .1)))
-    (refl, size-difference x y)
+    let is = op-held _-ℤ_ (c .args .x) (c .args .y) (c .fits .x) (c .fits .y) (fits (c .args .x) (c .args .y) (c .pre .0) (c .pre .1)) in
+    (is, rw is (size-difference (c .args .x) (c .args .y)))
 
 pub minus-spec : {M : Type 1} → statement M
 minus-spec = tie.close (tie.spec sub-result returns)

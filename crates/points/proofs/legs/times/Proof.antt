@@ -1,12 +1,10 @@
 -- `times`: the product fits. Assumes nothing.
-use mathlib.Core.Path.{refl}
-use native.Mathlib.Omega.{arith}
 use Prim.Native.Nat.{_≤_}
+use native.Mathlib.Omega.{arith}
 use lib.IntN.{ℤ, natAbs, _*ℤ_}
 use mir.Syntax.{w64}
 use mir.Val.{SFits}
-use mir.Facts.{toZ-ofZ}
-use Rattle.points.proofs.Sizes.{product-most, small-fits}
+use Rattle.points.proofs.Sizes.{product-most, small-fits, op-fits, op-held}
 use Rattle.points.proofs.legs.times.Statement.{statement}
 use Rattle.points.proofs.legs.times.Tie as tie
 
@@ -14,15 +12,12 @@ fits : (x y : ℤ) → natAbs x ≤ 20000000 → natAbs y ≤ 20000000 → SFits
 fits x y f g = small-fits (x *ℤ y) (omega (arith, product-most x y f g))
 
 mul-result : tie.Need-mul-result
-mul-result c =
-    rw (toZ-ofZ (c .fits .x), toZ-ofZ (c .fits .y)) (fits (c .args .x) (c .args .y) (c .pre .0) (c .pre .1))
+mul-result c = op-fits _*ℤ_ (c .args .x) (c .args .y) (c .fits .x) (c .fits .y) (fits (c .args .x) (c .args .y) (c .pre .0) (c .pre .1))
 
 returns : tie.Need-returns
 returns c =
-    let x = c .args .x in
-    let y = c .args .y in
-    rw (toZ-ofZ (c .fits .x), toZ-ofZ (c .fits .y), toZ-ofZ (fits x y (c .pre .0) (c .pre .1)))
-    (refl, product-most x y (c .pre .0) (c .pre .1))
+    let is = op-held _*ℤ_ (c .args .x) (c .args .y) (c .fits .x) (c .fits .y) (fits (c .args .x) (c .args .y) (c .pre .0) (c .pre .1)) in
+    (is, rw is (product-most (c .args .x) (c .args .y) (c .pre .0) (c .pre .1)))
 
 pub times-spec : {M : Type 1} → statement M
 times-spec = tie.close (tie.spec mul-result returns)
