@@ -1,5 +1,5 @@
--- Document 02, N2: the line of points, and what is refused. The design speed v, the crossfall e and the start are a line's, in document 01's units; `curves` are radius and spiral
--- of each PI in turn, in mm.
+-- Document 02, N2: the line of points, and what is refused. The design speed v, the crossfall e and the start are a line's, in document 01's
+-- units; `curves` are radius and spiral of each PI in turn, in mm.
 use mathlib.Core.Bool.{not, _&&_}
 use mathlib.Core.List.{List}
 use Prim.Native.Nat.{ℕ, suc, _+_, _*_, _%_}

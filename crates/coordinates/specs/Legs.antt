@@ -26,10 +26,11 @@ stepAt points k = coordinateAt points (k + 2) -ℤ coordinateAt points k
 abbrev pub legAt : List ℤ → ℕ → Leg
 legAt points i = record { east = stepAt points (2 * i); north = stepAt points (2 * i + 1) }
 
--- "A distance is the root of the summed squares, rounded down."
+-- "the summed squares"
 abbrev pub squares : Leg → ℕ
 squares leg = natAbs (leg .east) * natAbs (leg .east) + natAbs (leg .north) * natAbs (leg .north)
 
+-- "A distance is the root of the summed squares, rounded down."
 unfoldable pub lengthOf : Leg → ℕ
 lengthOf leg = rootOf (squares leg)
 
