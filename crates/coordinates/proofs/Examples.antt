@@ -23,7 +23,7 @@ use Rattle.stationing.specs.Stations.{stationRow}
 use Rattle.stationing.specs.Answer.{alignmentChecks, stationsIn}
 use Rattle.stationing.proofs.Examples.{caseLine, row}
 use Rattle.stationing.proofs.Examples as stations
-use Rattle.coordinates.specs.Legs.{lengthOf, crossOf, dotOf, crossAt}
+use Rattle.coordinates.specs.Legs.{lengthOf, crossOf, dotOf, crossAt, dotAt}
 use Rattle.coordinates.specs.FromPoints.{distanceFrom, deflectionFrom, curveFrom, lineFrom, countChecks, coordinateCheck, lengthCheck, turnChecks, fromPointsChecks}
 
 -- What is said of points at V 70, e 8, start 0.
@@ -191,6 +191,7 @@ pub record Edges : Type 0 where
   pub turn-of-1 : passes slight one ≡ refused 4 0
   pub turn-of-216000 : passes sixty one ≡ refused 4 0
   pub second-curve : curveFrom twice (350000 ∷ 40000 ∷ 300000 ∷ 30000 ∷ []) 1 ≡ record { left = true; deflection = 162000; radius = 300000; spiral = 30000 }
+  pub second-legs : (crossAt (pos 0 ∷ pos 0 ∷ pos 1 ∷ pos 0 ∷ pos 3 ∷ pos 2 ∷ pos 3 ∷ pos 5 ∷ []) 1 ≡ pos 6) × (dotAt (pos 0 ∷ pos 0 ∷ pos 1 ∷ pos 0 ∷ pos 3 ∷ pos 2 ∷ pos 3 ∷ pos 5 ∷ []) 1 ≡ pos 6)
   pub given : (lineFrom 70 8 5 twice two .speed ≡ 70) × (lineFrom 70 8 5 twice two .crossfall ≡ 8) × (lineFrom 70 8 5 twice two .start ≡ 5)
 
 pub edges : Edges
@@ -203,5 +204,6 @@ edges =
       turn-of-1 = slight-passes;
       turn-of-216000 = sixty-passes;
       second-curve = rw (turns .equal-products) refl;
+      second-legs = (refl, refl);
       given = (refl, refl, refl);
     }
