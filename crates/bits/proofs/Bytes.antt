@@ -62,28 +62,6 @@ value-take s k b h =
     rw length-drop at (value-lt (drop k s) (λ i. rw getD-drop (b (k + i)))) in
     ap (λ (n : ℕ). n / 2 ^ (8 * (length s - k))) e ∙ high _ _ l
 
--- The high bits of what waits leave it: j of them, and k stay.
-leave : (v pending j k : ℕ) → (v * 2 ^ j + pending / 2 ^ k % 2 ^ j) * 2 ^ k + pending % 2 ^ k ≡ v * 2 ^ (j + k) + pending % 2 ^ (j + k)
-leave v pending j k = rw (mod-pow-add pending j k, pow-add) (simp (add-mul, mul-assoc, add-assoc))
-
--- The bytes of a word.
-pub word-bytes : (w : ℕ) → w < 2 ^ 32 → (w / 2 ^ 24 ∷ w / 2 ^ 16 % 256 ∷ w / 2 ^ 8 % 256 ∷ w % 256 ∷ []) ≡ bytesOf 4 w
-unfolding bytesOf
-word-bytes w h =
-    let first : w / 2 ^ 24 ≡ w / 2 ^ 24 % 256 = sym (mod-eq-of-lt (omega arith)) in
-    let last : w % 256 ≡ w / 1 % 256 = ap (λ (x : ℕ). x % 256) (sym (div-one w)) in
-    λ j. first j ∷ w / 2 ^ 16 % 256 ∷ w / 2 ^ 8 % 256 ∷ last j ∷ []
-
--- A byte is stored, and the bits behind it wait still.
-pub byte-stored : (bytes : List ℕ) (at pending held : ℕ) → at < length bytes → 8 ≤ held
-    → valueOf (take (at + 1) (set bytes at (pending / 2 ^ (held - 8) % 256))) * 2 ^ (held - 8) + pending % 2 ^ (held - 8)
-    ≡ valueOf (take at bytes) * 2 ^ held + pending % 2 ^ held
-byte-stored bytes at pending held h l =
-    let sum : held ≡ 8 + (held - 8) = omega arith in
-    rw (add-one, take-suc-set bytes at, value-snoc)
-    (leave (valueOf (take at bytes)) pending 8 (held - 8)
-    ∙ ap (λ (n : ℕ). valueOf (take at bytes) * 2 ^ n + pending % 2 ^ n) (sym sum))
-
 pub bytes-take : (n : ℕ) (s : List ℕ) → Bytes s → Bytes (take n s)
 bytes-take zero s h i = omega arith
 bytes-take (suc n) [] h i = h i
@@ -109,29 +87,6 @@ value-bytes zero x = sym (mod-one x)
 value-bytes (suc k) x =
     let e : 8 * suc k ≡ 8 + 8 * k = omega arith in
     rw (e, length-bytes k x, value-bytes k x) (sym (mod-pow-add x 8 (8 * k)))
-
--- A word is stored, and the bits behind it wait still.
-pub word-stored : (b b′ : List ℕ) (at pending held : ℕ) → at + 4 ≤ length b → 32 ≤ held
-    → b′ ≡ take at b ++ bytesOf 4 (pending / 2 ^ (held - 32) % 2 ^ 32) ++ drop (at + 4) b
-    → (valueOf (take (at + 4) b′) * 2 ^ (held - 32) + pending % 2 ^ (held - 32) ≡ valueOf (take at b) * 2 ^ held + pending % 2 ^ held)
-    × (drop (at + 4) b′ ≡ drop (at + 4) b)
-word-stored b b′ at pending held room h e =
-    let left : ℕ = held - 32 in
-    let word : ℕ = pending / 2 ^ left % 2 ^ 32 in
-    let sum : held ≡ 32 + left = omega arith in
-    let front : List ℕ = take at b ++ bytesOf 4 word in
-    let size : length front ≡ at + 4 =
-    length-append (take at b) (bytesOf 4 word) ∙ (λ j. length-take-le at b (omega arith) j + length-bytes 4 word j) in
-    let value : valueOf front ≡ valueOf (take at b) * 2 ^ 32 + word =
-    value-append (take at b) (bytesOf 4 word)
-    ∙ (λ j. valueOf (take at b) * 2 ^ (8 * length-bytes 4 word j) + (value-bytes 4 word ∙ mod-eq-of-lt (mod-lt _ (omega arith))) j) in
-    let took : take (at + 4) b′ ≡ front = ap (take (at + 4)) e ∙ take-at front (drop (at + 4) b) (at + 4) size in (
-      ap (λ (xs : List ℕ). valueOf xs * 2 ^ left + pending % 2 ^ left) took
-          ∙ ap (λ (n : ℕ). n * 2 ^ left + pending % 2 ^ left) value
-          ∙ leave (valueOf (take at b)) pending 32 left
-          ∙ ap (λ (n : ℕ). valueOf (take at b) * 2 ^ n + pending % 2 ^ n) (sym sum),
-      ap (drop (at + 4)) e ∙ drop-at front (drop (at + 4) b) (at + 4) size,
-    )
 
 -- The low bytes are those of the low bits.
 bytes-low : (k h v : ℕ) → bytesOf k (h * 2 ^ (8 * k) + v) ≡ bytesOf k v

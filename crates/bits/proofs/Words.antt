@@ -1,13 +1,13 @@
 -- A field out of the bytes that hold it: in a word of four bytes, in two parts, at the end of the last byte. Assumes nothing.
 use mathlib.Core.Path.{_≡_, sym, _∙_, ap}
-use mathlib.Core.List.{List}
+use mathlib.Core.List.{List, [], _∷_}
 use Prim.Native.Nat.{ℕ, _+_, _-_, _*_, _/_, _%_, _^_, _≤_, _<_}
-use native.Mathlib.Nat.{add-assoc, mul-assoc, one-mul, div-one, mul-add-div-right, mul-add-mod-self-right}
+use native.Mathlib.Nat.{add-zero, add-assoc, add-mul, mul-one, mul-assoc, one-mul, div-one, mod-one, mod-eq-of-lt, mul-add-div-right, mul-add-mod-self-right}
 use native.Mathlib.Omega.{arith}
 use lib.Arith.{digits-div, digits-mod}
 use lib.ListN.{length, take, getD}
-use lib.Pow.{pow-add, pow-pos, shr-shr, shl-exact, mod-pow-add}
-use Rattle.bits.specs.Bits.{Bytes, valueOf, bitsAt}
+use lib.Pow.{pow-add, pow-pos, shr-shr, shl-exact, field, mod-pow-add, mod-mod-pow}
+use Rattle.bits.specs.Bits.{Bytes, valueOf, bitsAt, valuesAt, packed, total}
 use Rattle.bits.proofs.Bytes.{value-step, value-take}
 use Rattle.bits.proofs.Fields.{bits-lt}
 
@@ -43,6 +43,33 @@ module _ (s : List ℕ) (from w w′ : ℕ) (h : from + w + w′ ≤ 8 * length 
 
   pub second-part : bitsAt s from (w + w′) % 2 ^ w′ ≡ bitsAt s (from + w) w′
   second-part = ap (λ (n : ℕ). n % 2 ^ w′) (sym (two-parts s from w w′ h)) ∙ digits-mod (bitsAt s from w) (bits-lt s (from + w) w′)
+
+-- Bits that hold a field in their last w + w′, parted: the first w, and those behind.
+pub parted : (s : List ℕ) (from bits w w′ : ℕ) → from + w + w′ ≤ 8 * length s → bits % 2 ^ (w + w′) ≡ bitsAt s from (w + w′)
+    → (bits / 2 ^ w′ % 2 ^ w ≡ bitsAt s from w) × (bits % 2 ^ w′ ≡ bitsAt s (from + w) w′)
+parted s from bits w w′ h e =
+    (sym (field bits w w′) ∙ ap (λ (n : ℕ). n / 2 ^ w′) e ∙ first-part s from w w′ h, sym (mod-mod-pow bits w w′) ∙ ap (λ (n : ℕ). n % 2 ^ w′) e ∙ second-part s from w w′ h)
+
+no-width : (s : List ℕ) (from : ℕ) → bitsAt s from 0 ≡ 0
+unfolding bitsAt
+no-width s from = mod-one _
+
+-- Fields of any widths, one after the other behind the bits of x, are one field of all their bits.
+pub as-one : (s : List ℕ) (x from : ℕ) (ws : List ℕ) → from + total ws ≤ 8 * length s
+    → packed x ws (valuesAt s from ws) ≡ x * 2 ^ total ws + bitsAt s from (total ws)
+unfolding valuesAt packed
+as-one s x from [] h = sym (rw (no-width, mul-one) (add-zero x))
+as-one s x from (w ∷ ws) h =
+    as-one s (x * 2 ^ w + bitsAt s from w) (from + w) ws (omega arith)
+    ∙ rw (← two-parts s from w (total ws) (omega arith), pow-add) (simp (add-mul, mul-assoc, add-assoc))
+
+-- A byte is a field of eight bits.
+pub byte-field : (s : List ℕ) (i : ℕ) → Bytes s → i < length s → bitsAt s (8 * i) 8 ≡ getD s i 0
+byte-field s i b h =
+    let bits : 8 * (i + 1 - i) ≡ 8 = omega arith in
+    let none : 8 * (i + 1) - (8 * i + 8) ≡ 0 = omega arith in
+    sym (field-found s (8 * i) 8 i (i + 1) (getD s i 0) (valueOf (take i s)) b (omega arith) (omega arith) (omega arith) (rw bits (value-step s i h)))
+    ∙ rw none (rw div-one (mod-eq-of-lt (b i)))
 
 -- The code's `1 << w`.
 pub power : (bits : ℕ) {w : ℕ} → w < bits → 1 * 2 ^ w % 2 ^ bits ≡ 2 ^ w

@@ -3,7 +3,10 @@ pub mod Fitting
 pub mod Frames
 pub mod LineSteps
 pub mod WaysOut
+pub mod SoFar
+pub mod EachStore
 pub mod WrittenAgain
 pub mod ReadAgain
+pub mod FieldGroups
 pub mod RoundTrip
 pub mod Examples

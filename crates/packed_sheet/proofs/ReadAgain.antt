@@ -76,7 +76,7 @@ module _ (E : Edition) (holds : Holds E) (line : Line) (ok : LineInRange line) w
       let fits = packed-lt (entryAt E (line .count)) _ lastWidths lastValues last-fits (number-lt (line .count) (omega arith)) in
       value-bytes k (sheetNumber E line) ∙ mod-eq-of-lt (subst (λ (b : ℕ). sheetNumber E line < 2 ^ b) bits fits)
 
-  last-again : (upTo sheet (entryAt E (line .count)) ≡ numberTo E line (line .count))
+  pub last-again : (upTo sheet (entryAt E (line .count)) ≡ numberTo E line (line .count))
       × (valuesAt sheet (entryAt E (line .count)) lastWidths ≡ lastValues)
   unfolding sheetNumber
   last-again =
@@ -101,16 +101,19 @@ module _ (E : Edition) (holds : Holds E) (line : Line) (ok : LineInRange line) w
   number-again : (i : ℕ) → i ≤ line .count → upTo sheet (entryAt E i) ≡ numberTo E line i
   number-again i h = from-end (line .count - i) i (omega arith)
 
-  entry-again : (i : ℕ) → i < line .count → valuesAt sheet (entryAt E i) entryWidths ≡ entryValues line i
+  pub entry-again : (i : ℕ) → i < line .count → valuesAt sheet (entryAt E i) entryWidths ≡ entryValues line i
   entry-again i h = entry-step i h (number-again (suc i) h) .1
 
-  head-again : headOf E sheet ≡ headFrom (headValues E line)
-  unfolding headOf numberTo entriesAfter
-  head-again =
+  pub head-fields-again : valuesAt sheet 0 (headWidths E) ≡ headValues E line
+  unfolding numberTo entriesAfter
+  head-fields-again =
       let bits : 0 + total (headWidths E) ≡ entryAt E 0 = omega arith in
-      ap headFrom
-      (packed-read sheet 0 0 (headWidths E) (headValues E line) (head-fits line ok E holds) (omega (arith, sheet-length E line))
-      (ap (upTo sheet) bits ∙ number-again 0 (omega arith)) .1)
+      packed-read sheet 0 0 (headWidths E) (headValues E line) (head-fits line ok E holds) (omega (arith, sheet-length E line))
+      (ap (upTo sheet) bits ∙ number-again 0 (omega arith)) .1
+
+  head-again : headOf E sheet ≡ headFrom (headValues E line)
+  unfolding headOf
+  head-again = ap headFrom head-fields-again
 
   distance-again : (i : ℕ) → i ≤ line .count → distanceOf E sheet i ≡ distanceAt line i
   unfolding distanceOf valuesAt

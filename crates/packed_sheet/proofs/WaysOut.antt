@@ -16,7 +16,8 @@ use Rattle.line.specs.Checks.{lineChecks}
 use Rattle.packed_sheet.specs.Layout.{Edition, byteCount}
 use Rattle.packed_sheet.specs.Reading.{lineOf, frameChecks, readChecks, readLine}
 use Rattle.packed_sheet.specs.Writing.{sheetNumber, sheetOf}
-use Rattle.bits.proofs.Bytes.{length-bytes}
+use Rattle.bits.specs.Bits.{Bytes}
+use Rattle.bits.proofs.Bytes.{length-bytes, bytes-bytes}
 use Rattle.packed_sheet.proofs.Frames.{framed}
 
 -- ---- the reader
@@ -58,3 +59,7 @@ module _ (E : Edition) (s : List ℕ) where
 pub sheet-length : (E : Edition) (line : Line) → length (sheetOf E line) ≡ byteCount E (line .count)
 unfolding sheetOf
 sheet-length E line = length-bytes (byteCount E (line .count)) (sheetNumber E line)
+
+pub sheet-bytes : (E : Edition) (line : Line) → Bytes (sheetOf E line)
+unfolding sheetOf
+sheet-bytes E line = bytes-bytes (byteCount E (line .count)) (sheetNumber E line)

@@ -1,3 +1,2 @@
 -- Laws that the proofs of the writer cite.
 pub mod Pens
-pub mod SheetSteps

@@ -1,121 +1,104 @@
--- What is written, one field after the other. Assumes nothing.
-use mathlib.Core.Path.{_≡_, refl, sym, _∙_, ap, subst}
-use mathlib.Core.List.{List, _++_}
+-- Bits of a sheet that wait, joined and stored. Assumes nothing.
+use mathlib.Core.Path.{_≡_, sym, _∙_, ap, subst}
+use mathlib.Core.List.{List}
 use Prim.Native.Nat.{ℕ, _+_, _-_, _*_, _/_, _%_, _^_, _≤_, _<_}
-use native.Mathlib.Nat.{add-zero, mul-one, add-mul, mul-assoc, add-assoc, mod-lt, mod-one, mul-mod-left}
+use native.Mathlib.Nat.{add-zero, mod-lt, mod-eq-of-lt, mul-mod-left}
 use native.Mathlib.Omega.{arith}
 use lib.Arith.{digits-lt, digits-div, digits-mod}
-use lib.ListN.{length, take, drop, take-append-drop}
-use lib.Pow.{pow-add, pow-pos, shl-shr, mod-pow-add, mod-mod-pow}
-use lib.Seq.{drop-drop, length-take-le}
+use lib.ListN.{length, getD}
+use lib.Pow.{pow-add, pow-pos, pow-mono, shl-exact, shl-shr, mod-pow-add, mod-mod-pow}
+use Rattle.line.specs.declared.Line.{Line}
+use Rattle.bits.specs.Bits.{Bytes, bitsAt}
+use Rattle.packed_sheet.specs.Layout.{Edition}
+use Rattle.packed_sheet.proofs.SoFar.{stores-kept}
 use Rattle.sheet.specs.declared.pen.Pen.{Pen}
-use Rattle.bits.specs.Bits.{Bytes, valueOf, bytesOf}
-use Rattle.sheet.specs.Pens.{written, Put}
-use Rattle.bits.proofs.Bytes.{word-stored, bytes-value, bytes-take}
+use Rattle.sheet.specs.Pens.{Begun, Put}
+use Rattle.bits.proofs.Fields.{bits-lt}
+use Rattle.bits.proofs.Words.{two-parts, first-part, second-part, parted, byte-field}
 
--- What agrees from m on agrees from any later n on.
-pub further : (m n : ℕ) (a b : List ℕ) → m ≤ n → drop m a ≡ drop m b → drop n a ≡ drop n b
-further m n a b h e =
-    let z : n ≡ m + (n - m) = omega arith in
-    rw z (sym (drop-drop (n - m) m a) ∙ ap (drop (n - m)) e ∙ drop-drop (n - m) m b)
+-- ---- joined, as the code computes it in 64 bits
 
--- Nothing is written.
-pub put-none : (b : List ℕ) (p : Pen) → p .held < 32 → Put b b p p 0 (λ x. x)
-put-none b p h = record { held = h; moved = omega arith; onward = omega arith; number = refl; rest = refl }
-
--- Two writes after one another are one.
-pub put-put : {b₀ b₁ b₂ : List ℕ} {p q r : Pen} {w w′ : ℕ} {f g : ℕ → ℕ} → Put b₀ b₁ p q w f → Put b₁ b₂ q r w′ g
-    → Put b₀ b₂ p r (w + w′) (λ x. g (f x))
-put-put {b₀} {b₁} {q} {r} {g} h k =
-    record {
-      held = k .held;
-      moved = omega (arith, h .moved, k .moved);
-      onward = omega (arith, h .onward, k .onward);
-      number = k .number ∙ ap g (h .number);
-      rest = k .rest ∙ further (q .at) (r .at) b₁ b₀ (k .onward) (h .rest);
-    }
-
--- The same write, said otherwise.
-pub put-as : {b b′ : List ℕ} {p q : Pen} {w w′ : ℕ} {f g : ℕ → ℕ} → Put b b′ p q w f → w ≡ w′ → ((x : ℕ) → f x ≡ g x)
-    → Put b b′ p q w′ g
-put-as {b} {p} h e same =
-    record { held = h .held; moved = omega (arith, h .moved, e); onward = h .onward; number = h .number ∙ same (written b p); rest = h .rest }
-
--- ---- one field
-
-module _ (b : List ℕ) (p : Pen) (width value : ℕ) (few : p .held < 32) (narrow : width ≤ 32) (fits : value < 2 ^ width) where
-  -- The bits that wait with the field behind them, as the code computes them in 64 bits.
-  abbrev joined : ℕ
-  joined = p .pending * 2 ^ width % 2 ^ 64 + value
-
-  high-part : p .pending * 2 ^ width % 2 ^ 64 ≡ p .pending % 2 ^ (64 - width) * 2 ^ width
+module _ (pending width value : ℕ) (narrow : width < 64) (fits : value < 2 ^ width) where
+  high-part : pending * 2 ^ width % 2 ^ 64 ≡ pending % 2 ^ (64 - width) * 2 ^ width
   high-part =
       let bits : 64 ≡ 64 - width + width = omega arith in
-      ap (λ (n : ℕ). p .pending * 2 ^ width % 2 ^ n) bits
-      ∙ mod-pow-add (p .pending * 2 ^ width) (64 - width) width
-      ∙ (λ j. shl-shr (p .pending) width j % 2 ^ (64 - width) * 2 ^ width + mul-mod-left (p .pending) (2 ^ width) j)
+      ap (λ (n : ℕ). pending * 2 ^ width % 2 ^ n) bits
+      ∙ mod-pow-add (pending * 2 ^ width) (64 - width) width
+      ∙ (λ j. shl-shr pending width j % 2 ^ (64 - width) * 2 ^ width + mul-mod-left pending (2 ^ width) j)
       ∙ add-zero _
 
-  pub joined-lt : joined < 2 ^ 64
+  pub joined-lt : pending * 2 ^ width % 2 ^ 64 + value < 2 ^ 64
   joined-lt =
       let bits : 64 ≡ 64 - width + width = omega arith in
-      rw high-part (subst (λ (n : ℕ). p .pending % 2 ^ (64 - width) * 2 ^ width + value < 2 ^ n) (sym bits)
-      (rw pow-add (digits-lt (mod-lt (p .pending) (pow-pos (64 - width))) fits)))
+      rw high-part (subst (λ (n : ℕ). pending % 2 ^ (64 - width) * 2 ^ width + value < 2 ^ n) (sym bits)
+      (rw pow-add (digits-lt (mod-lt pending (pow-pos (64 - width))) fits)))
 
-  -- Of these the last `held + width` count.
-  joined-bits : joined % 2 ^ (p .held + width) ≡ p .pending % 2 ^ p .held * 2 ^ width + value
-  joined-bits =
-      let high = p .pending % 2 ^ (64 - width) in
-      let more : 64 - width ≡ 64 - width - p .held + p .held = omega arith in
-      let same : high % 2 ^ p .held ≡ p .pending % 2 ^ p .held =
-      ap (λ (n : ℕ). p .pending % 2 ^ n % 2 ^ p .held) more ∙ mod-mod-pow (p .pending) (64 - width - p .held) (p .held) in
+  pub joined-bits : (held : ℕ) → held + width ≤ 64 → (pending * 2 ^ width % 2 ^ 64 + value) % 2 ^ (held + width) ≡ pending % 2 ^ held * 2 ^ width + value
+  joined-bits held h =
+      let high = pending % 2 ^ (64 - width) in
+      let more : 64 - width ≡ 64 - width - held + held = omega arith in
+      let same : high % 2 ^ held ≡ pending % 2 ^ held =
+      ap (λ (n : ℕ). pending % 2 ^ n % 2 ^ held) more ∙ mod-mod-pow pending (64 - width - held) held in
       rw high-part
-      (mod-pow-add (high * 2 ^ width + value) (p .held) width
-      ∙ (λ j. digits-div high fits j % 2 ^ p .held * 2 ^ width + digits-mod high fits j)
+      (mod-pow-add (high * 2 ^ width + value) held width
+      ∙ (λ j. digits-div high fits j % 2 ^ held * 2 ^ width + digits-mod high fits j)
       ∙ ap (λ (n : ℕ). n * 2 ^ width + value) same)
 
-  grown : valueOf (take (p .at) b) * 2 ^ (p .held + width) + joined % 2 ^ (p .held + width) ≡ written b p * 2 ^ width + value
-  unfolding written
-  grown = rw (joined-bits, pow-add) (simp (add-mul, mul-assoc, add-assoc))
+-- A field behind few bits: nothing is lost.
+module _ (before width value : ℕ) (few : before < 2 ^ 32) (narrow : width ≤ 32) (fits : value < 2 ^ width) where
+  pub beside-exact : before * 2 ^ width % 2 ^ 64 ≡ before * 2 ^ width
+  beside-exact = shl-exact 32 width 64 few (omega arith)
 
-  -- It waits.
-  pub field-waits : p .held + width < 32
-      → Put b b p (record { at = p .at; pending = joined; held = p .held + width }) width (λ x. x * 2 ^ width + value)
-  unfolding written
-  field-waits h = record { held = h; moved = omega arith; onward = omega arith; number = grown; rest = refl }
+  pub beside-lt : before * 2 ^ width % 2 ^ 64 + value < 2 ^ 64
+  beside-lt =
+      let below : before * 2 ^ width + value < 2 ^ (32 + width) = rw pow-add (digits-lt few fits) in
+      let most : 2 ^ (32 + width) ≤ 2 ^ 64 = pow-mono {j = 64} (omega arith) in
+      rw beside-exact (omega arith)
 
-  -- It fills a word.
-  pub field-stored : (b′ : List ℕ) → 32 ≤ p .held + width → p .at + 4 ≤ length b
-      → b′ ≡ take (p .at) b ++ bytesOf 4 (joined / 2 ^ (p .held + width - 32) % 2 ^ 32) ++ drop (p .at + 4) b
-      → Put b b′ p (record { at = p .at + 4; pending = joined; held = p .held + width - 32 }) width (λ x. x * 2 ^ width + value)
-  unfolding written
-  field-stored b′ h room e =
-      let stored = word-stored b b′ (p .at) joined (p .held + width) room h e in
-      record {
-        held = omega arith;
-        moved = omega arith;
-        onward = omega arith;
-        number = stored .0 ∙ grown;
-        rest = stored .1;
-      }
+-- ---- a byte of the bits that wait
 
--- ---- whole bytes
+-- The first byte of the last `left` bits of a word is the sheet's next, and those behind it are the bits after that.
+pub next-byte : (s : List ℕ) (at word left : ℕ) → Bytes s → 8 * at + left ≤ 8 * length s → 8 ≤ left → word % 2 ^ left ≡ bitsAt s (8 * at) left
+    → (word / 2 ^ (left - 8) % 256 ≡ getD s at 0) × (word % 2 ^ (left - 8) ≡ bitsAt s (8 * (at + 1)) (left - 8))
+next-byte s at word left b h l e =
+    let sum : left ≡ 8 + (left - 8) = omega arith in
+    let from : 8 * at + 8 ≡ 8 * (at + 1) = omega arith in
+    let parts = parted s (8 * at) word 8 (left - 8) (omega arith) (subst (λ (n : ℕ). word % 2 ^ n ≡ bitsAt s (8 * at) n) sum e) in
+    (parts .0 ∙ byte-field s at b (omega arith), parts .1 ∙ ap (λ (n : ℕ). bitsAt s n (left - 8)) from)
 
--- Nothing is written yet.
-abbrev pub newPen : Pen
-newPen = record { at = 0; pending = 0; held = 0 }
+-- ---- a field of the sheet
 
--- Whole bytes are written: they are the number's, and the others are as before.
-pub bytes-written : {lent b : List ℕ} {q : Pen} {w : ℕ} {f : ℕ → ℕ} (k : ℕ) → Put lent b newPen q w f → w ≡ 8 * k → k ≤ length lent
-    → q .held < 8
-    → length b ≡ length lent → Bytes b → b ≡ bytesOf k (f 0) ++ drop k lent
-unfolding written valueOf
-bytes-written {lent} {b} {q} {w} {f} k h whole room few same bytes =
-    let at : q .at ≡ k = omega (arith, h .moved, few, whole) in
-    let held : q .held ≡ 0 = omega (arith, h .moved, few, whole) in
-    let number : valueOf (take k b) ≡ f 0 = sym (add-zero _ ∙ mul-one _) ∙ (rw (at, held, mod-one) at (h .number)) in
-    let size : length (take k b) ≡ k = length-take-le k b (omega (arith, same)) in
-    let front : take k b ≡ bytesOf k (f 0) =
-    sym (bytes-value (take k b) (bytes-take k b bytes)) ∙ (λ j. bytesOf (size j) (number j)) in
-    let rest : drop k b ≡ drop k lent = rw at at (h .rest) in
-    sym (take-append-drop k b) ∙ (λ j. front j ++ rest j)
+module _ (s : List ℕ) (from width value : ℕ) (within : from + width ≤ 8 * length s) (right : value ≡ bitsAt s from width) where
+  pub field-lt : value < 2 ^ width
+  field-lt = rw right (bits-lt s from width)
+
+  -- It waits alone.
+  pub waits-alone : value % 2 ^ width ≡ bitsAt s from width
+  waits-alone = mod-eq-of-lt field-lt ∙ right
+
+  -- It is joined to the bits that wait before it.
+  pub joined-next : (at pending held joined : ℕ) → from ≡ 8 * at + held → pending % 2 ^ held ≡ bitsAt s (8 * at) held
+      → joined % 2 ^ (held + width) ≡ pending % 2 ^ held * 2 ^ width + value → joined % 2 ^ (held + width) ≡ bitsAt s (8 * at) (held + width)
+  joined-next at pending held joined e waits j =
+      j
+      ∙ (λ i. waits i * 2 ^ width + (right ∙ ap (λ (n : ℕ). bitsAt s n width) e) i)
+      ∙ two-parts s (8 * at) held width (omega arith)
+
+  -- Its first bits, and the last `left`.
+  module _ (left : ℕ) (few : left ≤ width) where
+    sum : width ≡ width - left + left
+    sum = omega arith
+
+    pub first-bits : value / 2 ^ left ≡ bitsAt s from (width - left)
+    first-bits = ap (λ (n : ℕ). n / 2 ^ left) (right ∙ ap (bitsAt s from) sum) ∙ first-part s from (width - left) left (omega arith)
+
+    pub last-bits : value % 2 ^ left ≡ bitsAt s (from + (width - left)) left
+    last-bits = ap (λ (n : ℕ). n % 2 ^ left) (right ∙ ap (bitsAt s from) sum) ∙ second-part s from (width - left) left (omega arith)
+
+-- ---- a pen that has gone on
+
+-- After a field is put, the bytes stored are the sheet's.
+pub begun-again : (E : Edition) (line : Line) {b b′ : List ℕ} {p q : Pen} {width : ℕ} → Begun E line b (p .at) → Put E line b b′ p q width
+    → length b′ ≡ length b → Begun E line b′ (q .at)
+begun-again E line begun put same =
+    record { room = omega (arith, begun .room); stored = stores-kept E line (put .stores) (begun .stored) }

@@ -2,22 +2,30 @@
 use mathlib.Core.Path.{_≡_}
 use mathlib.Core.List.{List}
 use Prim.Native.Nat.{ℕ, _+_, _*_, _%_, _^_, _≤_, _<_}
-use lib.ListN.{take, drop}
+use lib.ListN.{length}
+use Rattle.line.specs.declared.Line.{Line}
 use Rattle.sheet.specs.declared.pen.Pen.{Pen}
-use Rattle.bits.specs.Bits.{valueOf}
+use Rattle.bits.specs.Bits.{bitsAt}
+use Rattle.packed_sheet.specs.Layout.{Edition}
+use Rattle.packed_sheet.specs.Writing.{sheetOf}
+use Rattle.packed_sheet.specs.EachStore.{soFar, Stores}
 
--- The number in the bits written so far: the bytes stored, then the bits that wait.
-unfoldable pub written : List ℕ → Pen → ℕ
-written bytes p = valueOf (take (p .at) bytes) * 2 ^ p .held + p .pending % 2 ^ p .held
-
--- How many bits are written.
+-- How many bits are stored or wait.
 abbrev pub position : Pen → ℕ
 position p = 8 * p .at + p .held
 
--- `width` bits more were written: less than a word of 32 bits waits, the number grew, and the bytes that are not stored yet are as before.
-pub record Put (before after : List ℕ) (p q : Pen) (width : ℕ) (grown : ℕ → ℕ) : Type 0 where
-  pub held : q .held < 32
+-- The caller's bytes have room for the sheet, and the first k are the sheet's.
+pub record Begun (E : Edition) (line : Line) (bytes : List ℕ) (k : ℕ) : Type 0 where
+  pub room : length (sheetOf E line) ≤ length bytes
+  pub stored : bytes ≡ soFar E line bytes k
+
+-- The bits that wait, less than a word of 64, are the sheet's next.
+pub record Waits (E : Edition) (line : Line) (p : Pen) : Type 0 where
+  pub few : p .held < 64
+  pub next : p .pending % 2 ^ p .held ≡ bitsAt (sheetOf E line) (8 * p .at) (p .held)
+
+-- `width` bits more of the sheet were taken: the whole words among them are stored, byte by byte, and the others wait.
+pub record Put (E : Edition) (line : Line) (before after : List ℕ) (p q : Pen) (width : ℕ) : Type 0 where
   pub moved : position q ≡ position p + width
-  pub onward : p .at ≤ q .at
-  pub number : written after q ≡ grown (written before p)
-  pub rest : drop (q .at) after ≡ drop (q .at) before
+  pub waits : Waits E line q
+  pub stores : Stores E line (p .at) before (q .at) after

@@ -25,10 +25,15 @@ pub(crate) const RADIUS: usize = 23;
 
 pub(crate) const SPIRAL: usize = 19;
 
-// The bits of the head, and of a distance with its curve.
-const HEAD: usize = EDITION + COUNT + SPEED + CROSSFALL + START;
+// The bits that the writer puts at once: the head, a distance with side and deflection, radius and spiral.
+pub(crate) const HEAD: usize = EDITION + COUNT + SPEED + CROSSFALL + START;
 
-const ENTRY: usize = DISTANCE + SIDE + DEFLECTION + RADIUS + SPIRAL;
+pub(crate) const TURN: usize = DISTANCE + SIDE + DEFLECTION;
+
+pub(crate) const SIZE: usize = RADIUS + SPIRAL;
+
+// A distance with its curve.
+const ENTRY: usize = TURN + SIZE;
 
 // The bit where distance `i` begins; the curve after it follows.
 pub(crate) fn entry_at(i: usize) -> usize

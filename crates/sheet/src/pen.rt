@@ -1,61 +1,75 @@
-// Fields written into the caller's bytes, most significant bit first: each byte is stored once, in ascending order.
+// The fields of a line's sheet put into the caller's bytes, most significant bit first: each byte is stored once, in ascending order. The
+// contracts name the line whose sheet it is; nothing here reads it.
 ghost use mathlib.Core.Path.{_≡_};
-ghost use mathlib.Core.List.{_++_};
-ghost use Prim.Native.Nat.{_+_, _*_, _^_, _<_, _≤_};
-ghost use lib.ListN.{length, take, drop};
-ghost use Rattle.bits.specs.Bits.{bytesOf};
-ghost use Rattle.sheet.specs.Pens.{Put, position};
+ghost use Prim.Native.Nat.{ℕ, _+_, _*_, _/_, _%_, _^_, _<_, _≤_};
+ghost use lib.ListN.{length, getD};
+ghost use Rattle.bits.specs.Bits.{bitsAt};
+ghost use Rattle.packed_sheet.specs.Layout.{firstEdition};
+ghost use Rattle.packed_sheet.specs.Writing.{sheetOf};
+ghost use Rattle.packed_sheet.specs.EachStore.{Store, Stores};
+ghost use Rattle.sheet.specs.Pens.{position, Begun, Waits, Put};
+use line::Line;
 
-// How far the bytes are written: `at` of them are stored, and the last `held` bits of `pending`, less than a word, wait.
+// How far the sheet is written: `at` of its bytes are stored, and the last `held` bits of `pending`, less than a word, wait.
 pub(crate) struct Pen {
     pub at: usize,
     pub pending: u64,
     pub held: usize,
 }
 
-// The four bytes of a word.
-fn store_word(bytes: &mut [u8], at: usize, word: u32)
-    requires { ⌜ at + 4 ≤ length (now bytes) ⌝ }
-    ensures { λ _. ⌜ now (bytes .exit) ≡ take at (now (bytes .entry)) ++ bytesOf 4 word ++ drop (at + 4) (now (bytes .entry)) ⌝ }
+// The sheet's byte `at`, the next: the writer's only store.
+fn store(line: Line, bytes: &mut [u8], at: usize, byte: u8)
+    requires { ⌜ Begun firstEdition line (now bytes) at ⌝ }
+    requires { ⌜ (at < length (sheetOf firstEdition line)) × (byte ≡ getD (sheetOf firstEdition line) at 0) ⌝ }
+    ensures { λ _. ⌜ Store firstEdition line at (now (bytes .entry)) (now (bytes .exit)) ⌝ }
 {
-    bytes[at] = (word >> 24) as u8;
-    bytes[at + 1] = ((word >> 16) % 256) as u8;
-    bytes[at + 2] = ((word >> 8) % 256) as u8;
-    bytes[at + 3] = (word % 256) as u8;
+    bytes[at] = byte;
 }
 
-// One field more, of `width` bits; a whole word is stored.
-pub(crate) fn put(bytes: &mut [u8], pen: Pen, width: usize, value: u32) -> Pen
-    requires { ⌜ (pen .held < 32) × (width ≤ 32) × (value < 2 ^ width) × (position pen + width ≤ 8 * length (now bytes)) ⌝ }
-    ensures { λ r. ⌜ Put (now (bytes .entry)) (now (bytes .exit)) pen r width (λ x. x * 2 ^ width + value) ⌝ }
+// The whole bytes of the last `held` bits of `word`, which are the sheet's from byte `at` on, one after the other.
+pub(crate) fn store_bytes(line: Line, bytes: &mut [u8], at: usize, word: u64, held: usize)
+    requires { ⌜ Begun firstEdition line (now bytes) at ⌝ }
+    requires { ⌜ (held ≤ 64) × (8 * at + held ≤ 8 * length (sheetOf firstEdition line)) × (word % 2 ^ held ≡ bitsAt (sheetOf firstEdition line) (8 * at) held) ⌝ }
+    ensures { λ _. ⌜ Stores firstEdition line at (now (bytes .entry)) (at + held / 8) (now (bytes .exit)) ⌝ }
+{
+    let mut next = at;
+    let mut left = held;
+    while 8 <= left {
+        left -= 8;
+        store(line, &mut *bytes, next, ((word >> left) % 256) as u8);
+        next += 1;
+    }
+}
+
+// The bits of `pending` with `width` bits behind them, as far as 64 hold.
+fn join(pending: u64, width: usize, value: u64) -> u64
+    requires { ⌜ (width < 64) × (value < 2 ^ width) ⌝ }
+    ensures { λ r. ⌜ ((held : ℕ) → held + width ≤ 64 → r % 2 ^ (held + width) ≡ pending % 2 ^ held * 2 ^ width + value) ⌝ }
+{
+    (pending << width) + value
+}
+
+// The sheet's next `width` bits; a whole word is stored.
+pub(crate) fn put(line: Line, bytes: &mut [u8], pen: Pen, width: usize, value: u64) -> Pen
+    requires { ⌜ Begun firstEdition line (now bytes) (pen .at) × Waits firstEdition line pen ⌝ }
+    requires { ⌜ (width < 64) × (position pen + width ≤ 8 * length (sheetOf firstEdition line)) × (value ≡ bitsAt (sheetOf firstEdition line) (position pen) width) ⌝ }
+    ensures { λ r. ⌜ Put firstEdition line (now (bytes .entry)) (now (bytes .exit)) pen r width ⌝ }
 {
     let at = pen.at;
-    let pending = (pen.pending << width) + (value as u64);
     let held = pen.held + width;
-    if held < 32 {
-        return Pen { at, pending, held };
+    if held < 64 {
+        return Pen {
+            at,
+            pending: join(pen.pending, width, value),
+            held,
+        };
     }
-    let left = held - 32;
-    store_word(&mut *bytes, at, ((pending >> left) % 4294967296) as u32);
+    let left = held - 64;
+    let word = join(pen.pending, width - left, value >> left);
+    store_bytes(line, &mut *bytes, at, word, 64);
     Pen {
-        at: at + 4,
-        pending,
+        at: at + 8,
+        pending: value,
         held: left,
     }
-}
-
-// The whole bytes that wait are stored.
-pub(crate) fn flush(bytes: &mut [u8], pen: Pen) -> Pen
-    requires { ⌜ (pen .held < 32) × (position pen ≤ 8 * length (now bytes)) ⌝ }
-    ensures { λ r. ⌜ Put (now (bytes .entry)) (now (bytes .exit)) pen r 0 (λ x. x) × (r .held < 8) ⌝ }
-{
-    let pending = pen.pending;
-    let mut at = pen.at;
-    let mut held = pen.held;
-    while 8 <= held {
-        held -= 8;
-        bytes[at] = ((pending >> held) % 256) as u8;
-        at += 1;
-    }
-    Pen { at, pending, held }
 }

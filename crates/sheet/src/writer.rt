@@ -1,31 +1,32 @@
 // The writer: the sheet of a line at the front of the caller's bytes.
 ghost use mathlib.Core.Path.{_≡_};
-ghost use mathlib.Core.List.{[], _∷_, _++_};
-ghost use Prim.Native.Nat.{_+_, _*_, _<_, _≤_};
-ghost use lib.ListN.{length, drop};
+ghost use mathlib.Core.List.{[], _∷_};
+ghost use Prim.Native.Nat.{_^_, _<_, _≤_, _*_, _+_};
+ghost use lib.ListN.{length, take, drop};
 ghost use Rattle.refusals.specs.Outcomes.{passed};
 ghost use Rattle.refusals.specs.Filling.{fillReplyOf};
 ghost use Rattle.refusals.specs.Order.{outcome};
 ghost use Rattle.line.specs.Checks.{lineChecks};
-ghost use Rattle.bits.specs.Bits.{packed, total, Fit};
-ghost use Rattle.packed_sheet.specs.Layout.{firstEdition, headWidths, entryWidths, byteCount};
-ghost use Rattle.packed_sheet.specs.Writing.{curveValues, entriesAfter, sheetOf, sheetIn};
-ghost use Rattle.sheet.specs.Pens.{Put, position};
+ghost use Rattle.bits.specs.Bits.{packed, Fit};
+ghost use Rattle.packed_sheet.specs.Layout.{firstEdition, headWidths, curveWidths, entryWidths, byteCount};
+ghost use Rattle.packed_sheet.specs.Writing.{curveValues, sheetIn};
+ghost use Rattle.packed_sheet.specs.EachStore.{Stores};
 use crate::layout::COUNT;
 use crate::layout::CROSSFALL;
 use crate::layout::DEFLECTION;
 use crate::layout::DISTANCE;
-use crate::layout::EDITION;
-use crate::layout::RADIUS;
+use crate::layout::HEAD;
 use crate::layout::SIDE;
+use crate::layout::SIZE;
 use crate::layout::SPEED;
 use crate::layout::SPIRAL;
 use crate::layout::START;
+use crate::layout::TURN;
 use crate::layout::bit_count;
 use crate::layout::byte_count;
 use crate::pen::Pen;
-use crate::pen::flush;
 use crate::pen::put;
+use crate::pen::store_bytes;
 use line::Curve;
 use line::Line;
 use line::check_line;
@@ -34,84 +35,68 @@ use refusals::FillAnswer;
 use refusals::Refusal;
 use refusals::Verdict;
 
-// The head.
-fn put_head(bytes: &mut [u8], pen: Pen, count: u32, speed: u32, crossfall: u32, start: u32) -> Pen
-    requires { ⌜ (pen .held < 32) × Fit (headWidths firstEdition) (1 ∷ count ∷ speed ∷ crossfall ∷ start ∷ []) ⌝ }
-    requires { ⌜ position pen + total (headWidths firstEdition) ≤ 8 * length (now bytes) ⌝ }
-    ensures { λ r.
-        ⌜
-        Put (now (bytes .entry)) (now (bytes .exit)) pen r (total (headWidths firstEdition))
-        (λ x. packed x (headWidths firstEdition) (1 ∷ count ∷ speed ∷ crossfall ∷ start ∷ []))
-        ⌝ }
+// A field of `width` bits behind the bits of `before`.
+fn beside(before: u64, width: usize, value: u32) -> u64
+    requires { ⌜ (before < 2 ^ 32) × (width ≤ 32) × (value < 2 ^ width) ⌝ }
+    ensures { λ r. ⌜ r ≡ before * 2 ^ width + value ⌝ }
 {
-    let p1 = put(&mut *bytes, pen, EDITION, 1);
-    let p2 = put(&mut *bytes, p1, COUNT, count);
-    let p3 = put(&mut *bytes, p2, SPEED, speed);
-    let p4 = put(&mut *bytes, p3, CROSSFALL, crossfall);
-    put(&mut *bytes, p4, START, start)
+    (before << width) + (value as u64)
 }
 
-// A distance, and the curve after it.
-fn put_entry(bytes: &mut [u8], pen: Pen, distance: u32, curve: Curve) -> Pen
-    requires { ⌜ (pen .held < 32) × Fit entryWidths (distance ∷ curveValues curve) ⌝ }
-    requires { ⌜ position pen + total entryWidths ≤ 8 * length (now bytes) ⌝ }
-    ensures { λ r.
-        ⌜
-        Put (now (bytes .entry)) (now (bytes .exit)) pen r (total entryWidths)
-        (λ x. packed x entryWidths (distance ∷ curveValues curve))
-        ⌝ }
+// The head's fields as one.
+fn head_bits(count: u32, speed: u32, crossfall: u32, start: u32) -> u64
+    requires { ⌜ Fit (headWidths firstEdition) (1 ∷ count ∷ speed ∷ crossfall ∷ start ∷ []) ⌝ }
+    ensures { λ r. ⌜ r ≡ packed 0 (headWidths firstEdition) (1 ∷ count ∷ speed ∷ crossfall ∷ start ∷ []) ⌝ }
 {
-    let side = side_bit(curve.left);
-    let p1 = put(&mut *bytes, pen, DISTANCE, distance);
-    let p2 = put(&mut *bytes, p1, SIDE, side);
-    let p3 = put(&mut *bytes, p2, DEFLECTION, curve.deflection);
-    let p4 = put(&mut *bytes, p3, RADIUS, curve.radius);
-    put(&mut *bytes, p4, SPIRAL, curve.spiral)
+    let n = beside(1, COUNT, count);
+    let v = beside(n, SPEED, speed);
+    let e = beside(v, CROSSFALL, crossfall);
+    beside(e, START, start)
 }
 
-// The distances and curves of a line that passes, but for the last distance.
-fn put_entries(bytes: &mut [u8], pen: Pen, line: Line) -> Pen
+// A distance with side and deflection of the curve after it as one field.
+fn turn_bits(distance: u32, curve: Curve) -> u64
+    requires { ⌜ Fit entryWidths (distance ∷ curveValues curve) ⌝ }
+    ensures { λ r. ⌜ r ≡ packed 0 (take 3 entryWidths) (take 3 (distance ∷ curveValues curve)) ⌝ }
+{
+    let side = beside(distance as u64, SIDE, side_bit(curve.left));
+    beside(side, DEFLECTION, curve.deflection)
+}
+
+// The curve's radius and spiral as one field.
+fn size_bits(curve: Curve) -> u64
+    requires { ⌜ Fit curveWidths (curveValues curve) ⌝ }
+    ensures { λ r. ⌜ r ≡ packed 0 (drop 2 curveWidths) (drop 2 (curveValues curve)) ⌝ }
+{
+    beside(curve.radius as u64, SPIRAL, curve.spiral)
+}
+
+// The sheet of a line that passes, at the front of bytes that are enough: head, distances and curves, the last distance and the fill.
+fn write_sheet(line: Line, bytes: &mut [u8])
     requires { ⌜ outcome (lineChecks line) ≡ passed ⌝ }
-    requires { ⌜ (pen .held < 32) × (position pen + total entryWidths * line .count ≤ 8 * length (now bytes)) ⌝ }
-    ensures { λ r. ⌜ Put (now (bytes .entry)) (now (bytes .exit)) pen r (total entryWidths * line .count) (entriesAfter line (line .count)) ⌝ }
+    requires { ⌜ byteCount firstEdition (line .count) ≤ length (now bytes) ⌝ }
+    ensures { λ _. ⌜ Stores firstEdition line 0 (now (bytes .entry)) (byteCount firstEdition (line .count)) (now (bytes .exit)) ⌝ }
 {
     let n = line.count;
-    let mut last = pen;
+    let mut pen = Pen {
+        at: 0,
+        pending: head_bits(n as u32, line.speed, line.crossfall, line.start),
+        held: HEAD,
+    };
     let mut i = 0;
     while i < n {
         let distance = line.distances[i];
         let curve = line.curves[i];
-        last = put_entry(&mut *bytes, last, distance, curve);
+        let turn = turn_bits(distance, curve);
+        let size = size_bits(curve);
+        let turned = put(line, &mut *bytes, pen, TURN, turn);
+        pen = put(line, &mut *bytes, turned, SIZE, size);
         i += 1;
     }
-    last
-}
-
-// The sheet of a line that passes, at the front of bytes that are enough.
-fn write_sheet(line: Line, bytes: &mut [u8])
-    requires { ⌜ outcome (lineChecks line) ≡ passed ⌝ }
-    requires { ⌜ byteCount firstEdition (line .count) ≤ length (now bytes) ⌝ }
-    ensures { λ _. ⌜ now (bytes .exit) ≡ sheetOf firstEdition line ++ drop (byteCount firstEdition (line .count)) (now (bytes .entry)) ⌝ }
-{
-    let n = line.count;
-    let new = Pen {
-        at: 0,
-        pending: 0,
-        held: 0,
-    };
-    let head = put_head(
-        &mut *bytes,
-        new,
-        n as u32,
-        line.speed,
-        line.crossfall,
-        line.start,
-    );
-    let entries = put_entries(&mut *bytes, head, line);
-    let last = put(&mut *bytes, entries, DISTANCE, line.distances[n]);
     let fill = 8 * byte_count(n) - bit_count(n);
-    let all = put(&mut *bytes, last, fill, 0);
-    flush(&mut *bytes, all);
+    let end = beside(line.distances[n] as u64, fill, 0);
+    let last = put(line, &mut *bytes, pen, DISTANCE + fill, end);
+    store_bytes(line, &mut *bytes, last.at, last.pending, last.held);
 }
 
 // The sheet of a line, at the front of `bytes`. Answers its length in bytes, or the first refusal in document 01's order: 3 to

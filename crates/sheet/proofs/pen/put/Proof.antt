@@ -1,39 +1,70 @@
 -- `put` meets its contract: the field waits, or fills a word that is stored. Assumes nothing.
+use mathlib.Core.Path.{_≡_, _∙_, ap}
+use Prim.Native.Nat.{ℕ, _+_, _-_, _*_, _≤_}
 use native.Mathlib.Omega.{arith}
 use borrow.Author.Needs.{needs}
-use Rattle.sheet.proofs.Pens.{joined-lt, field-waits, field-stored}
+use lib.ListN.{length}
+use Rattle.bits.specs.Bits.{bitsAt}
+use Rattle.packed_sheet.specs.Layout.{firstEdition}
+use Rattle.packed_sheet.specs.Writing.{sheetOf}
+use Rattle.packed_sheet.specs.EachStore.{none}
+use Rattle.sheet.specs.Pens.{position}
+use Rattle.sheet.proofs.Pens.{field-lt, joined-next, first-bits, last-bits}
 use Rattle.sheet.proofs.pen.put.Statement.{statement}
 use Rattle.sheet.proofs.pen.put.Tie as tie
 
-shl-pending : tie.Need-shl-pending
-shl-pending c = search needs
-
-add-pending : tie.Need-add-pending
-add-pending c =
-    let start = c .before .before in
-    let a = start .args in
-    record { fits = joined-lt (a .bytes .now) (a .pen) (a .width) (a .value) (start .pre .0) (start .pre .1) (start .pre .2) }
-
 add-held : tie.Need-add-held
 add-held c = search needs
+
+join-requires : tie.Need-join-requires
+join-requires c κs =
+    let start = c .before .before .before in
+    let a = start .args in
+    (start .pre .1 .0, field-lt (sheetOf firstEdition (a .line)) (position (a .pen)) (a .width) (a .value) (start .pre .1 .1) (start .pre .1 .2))
 
 returns : tie.Need-returns
 returns c =
     let start = c .before .before .before .before in
     let a = start .args in
-    field-waits (a .bytes .now) (a .pen) (a .width) (a .value) (start .pre .0) (start .pre .1) (start .pre .2) (c .if1 .taken)
+    let p = a .pen in
+    let next = c .join .ensures (p .held) (omega arith) in
+    record {
+      moved = omega arith;
+      waits = record {
+        few = omega arith;
+        next = joined-next (sheetOf firstEdition (a .line)) (position p) (a .width) (a .value) (start .pre .1 .1) (start .pre .1 .2) (p .at) (p .pending) (p .held) (c .join .result) (omega arith) (start .pre .0 .1 .next) next;
+      };
+      stores = none;
+    }
 
-shr-store-word : tie.Need-shr-store-word
-shr-store-word c = search needs
+sub-join : tie.Need-sub-join
+sub-join c = search needs
 
-cast-store-word : tie.Need-cast-store-word
-cast-store-word c = search needs
+shr-join : tie.Need-shr-join
+shr-join c = search needs
 
-store-word-requires : tie.Need-store-word-requires
-store-word-requires c κs = search needs
+join-requires-2 : tie.Need-join-requires-2
+join-requires-2 c κs =
+    let start = c .before .before .before in
+    let a = start .args in
+    let s = sheetOf firstEdition (a .line) in
+    let left : ℕ = a .pen .held + a .width - 64 in
+    (omega arith, field-lt s (position (a .pen)) (a .width - left) _ (omega arith) (first-bits s (position (a .pen)) (a .width) (a .value) (start .pre .1 .1) (start .pre .1 .2) left (omega arith)))
 
-add-t17 : tie.Need-add-t17
-add-t17 c = search needs
+store-bytes-requires : tie.Need-store-bytes-requires
+store-bytes-requires c κs =
+    let start = c .before .before .before .before .before in
+    let a = start .args in
+    let p = a .pen in
+    let s = sheetOf firstEdition (a .line) in
+    let left : ℕ = p .held + a .width - 64 in
+    let full : p .held + (a .width - left) ≡ 64 = omega arith in
+    let first = first-bits s (position p) (a .width) (a .value) (start .pre .1 .1) (start .pre .1 .2) left (omega arith) in
+    let word = joined-next s (position p) (a .width - left) _ (omega arith) first (p .at) (p .pending) (p .held) (c .before .join2 .result) (omega arith) (start .pre .0 .1 .next) (c .before .join2 .ensures (p .held) (omega arith)) in
+    (start .pre .0 .0, (omega arith, omega arith, rw full at word))
+
+add-t12 : tie.Need-add-t12
+add-t12 c = search needs
 
 same-length : tie.Need-same-length
 same-length c = search needs
@@ -42,20 +73,30 @@ returns-2 : tie.Need-returns-2
 returns-2 c =
     let start = c .before .before .before .before .before .before .before .before in
     let a = start .args in
-    field-stored (a .bytes .now) (a .pen) (a .width) (a .value) (start .pre .0) (start .pre .1) (start .pre .2) _ (omega arith) (omega arith)
-    (c .before .before .store-word .ensures)
+    let p = a .pen in
+    let s = sheetOf firstEdition (a .line) in
+    let left : ℕ = p .held + a .width - 64 in
+    let behind : position p + (a .width - left) ≡ 8 * (p .at + 8) = omega arith in
+    record {
+      moved = omega arith;
+      waits = record {
+        few = omega arith;
+        next = last-bits s (position p) (a .width) (a .value) (start .pre .1 .1) (start .pre .1 .2) left (omega arith) ∙ ap (λ (n : ℕ). bitsAt s n left) behind;
+      };
+      stores = c .before .before .store-bytes .ensures;
+    }
 
 pub put-spec : {M : Type 1} → statement M
 put-spec =
     tie.close
     (tie.spec
-    shl-pending
-    add-pending
     add-held
+    join-requires
     returns
-    shr-store-word
-    cast-store-word
-    store-word-requires
-    add-t17
+    sub-join
+    shr-join
+    join-requires-2
+    store-bytes-requires
+    add-t12
     same-length
     returns-2)

@@ -10,6 +10,7 @@ use Rattle.line.proofs.InRange.{line-in-range}
 use Rattle.packed_sheet.specs.Layout.{firstEdition}
 use Rattle.packed_sheet.specs.Writing.{sheetOf, sheetIn}
 use Rattle.packed_sheet.proofs.WaysOut.{sheet-length}
+use Rattle.packed_sheet.proofs.EachStore.{whole-sheet}
 use Rattle.sheet.proofs.writer.write.Statement.{statement}
 use Rattle.sheet.proofs.writer.write.Tie as tie
 
@@ -52,7 +53,7 @@ returns-3 c =
     let line = start .args .line in
     let checked = sym (c .before .before .before .before .before .before .before .before .check-line .ensures) ∙ ap outcomeOf (c .before .before .before .before .before .before .enum-told .given .1) in
     let size = c .before .before .before .before .before .byte-count .ensures in
-    let all = whole-fill (lineChecks line) (sheetOf firstEdition line) (start .args .bytes .now) checked (sheet-length firstEdition line) (omega (arith, size, c .before .before .before .before .if1 .left)) (c .before .before .write-sheet .ensures) in
+    let all = whole-fill (lineChecks line) (sheetOf firstEdition line) (start .args .bytes .now) checked (sheet-length firstEdition line) (omega (arith, size, c .before .before .before .before .if1 .left)) (whole-sheet firstEdition line (start .args .bytes .now) (c .before .before .write-sheet .ensures) (sheet-length firstEdition line)) in
     (ap filled size ∙ all .0, all .1)
 
 pub write-spec : {M : Type 1} → statement M

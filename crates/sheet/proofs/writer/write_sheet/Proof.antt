@@ -1,96 +1,226 @@
--- `write_sheet` meets its contract: head, entries, the last distance and the fill one after the other. Assumes nothing.
-use mathlib.Core.Path.{_∙_}
+-- `write_sheet` meets its contract: after i turns the head and the first i entries are put, and what is stored of them was stored byte by byte.
+-- Assumes nothing.
+use mathlib.Core.Path.{_≡_, refl, sym, _∙_, ap}
+use Prim.Native.Nat.{ℕ, _+_, _-_, _*_, _/_, _^_, _≤_, _<_}
 use native.Mathlib.Omega.{arith}
+use borrow.Author.Needs.{needs}
+use lib.ListN.{length}
 use lib.Pow.{pow-pos}
+use Rattle.line.specs.declared.Line.{Line}
+use Rattle.line.specs.Checks.{distanceAt}
 use Rattle.line.specs.Ranges.{LineInRange}
 use Rattle.line.proofs.InRange.{line-in-range}
-use Rattle.packed_sheet.specs.Layout.{firstEdition}
-use Rattle.packed_sheet.proofs.Fitting.{first-holds, head-fits, distance-fits}
-use Rattle.sheet.proofs.SheetSteps.{sheet-written}
-use borrow.Author.Needs.{needs}
+use Rattle.bits.specs.Bits.{bitsAt}
+use Rattle.packed_sheet.specs.Layout.{firstEdition, distanceWidth, entryAt, byteCount, fillWidth}
+use Rattle.packed_sheet.specs.Writing.{sheetOf}
+use Rattle.packed_sheet.specs.EachStore.{Stores, none}
+use Rattle.packed_sheet.proofs.WaysOut.{sheet-length}
+use Rattle.packed_sheet.proofs.Fitting.{first-holds, head-fits, distance-fits, entry-fits}
+use Rattle.packed_sheet.proofs.FieldGroups.{head-group, turn-group, size-group, last-group}
+use Rattle.packed_sheet.proofs.SoFar.{at-first, stores-then}
+use Rattle.sheet.specs.declared.pen.Pen.{Pen}
+use Rattle.sheet.specs.Pens.{position, Begun, Waits}
+use Rattle.sheet.proofs.Pens.{waits-alone, begun-again}
 use Rattle.sheet.proofs.writer.write_sheet.Statement.{statement}
 use Rattle.sheet.proofs.writer.write_sheet.Tie as tie
 
-in-range : (c : tie.Start) → LineInRange (c .args .t1)
+abbrev Inv-loop : tie.InvT-loop
+Inv-loop bytes₀ line n pen₀ i₀ bytes pen i =
+    (i ≤ n)
+    × (n ≤ 64)
+    × (position pen ≡ entryAt firstEdition i)
+    × (length bytes ≡ length bytes₀)
+    × Begun firstEdition line bytes (pen .at)
+    × Waits firstEdition line pen
+    × Stores firstEdition line 0 bytes₀ (pen .at) bytes
+
+abbrev μ-loop : tie.MeasureT-loop
+μ-loop bytes₀ line n pen₀ i₀ bytes pen i = n - i
+
+-- The last distance and the fill end at a whole byte, the last of the sheet.
+at-end : (line : Line) (p q : Pen) {fill : ℕ} → position p ≡ entryAt firstEdition (line .count) → position q ≡ position p + (25 + fill)
+    → fill ≡ fillWidth firstEdition (line .count) → position q ≡ 8 * byteCount firstEdition (line .count)
+at-end line p q e moved f = omega arith
+
+in-range : (c : tie.Start Inv-loop μ-loop) → LineInRange (c .args .t1)
 in-range c = line-in-range (c .args .t1) (c .pre .0)
 
-cast-put-head : tie.Need-cast-put-head
-cast-put-head c = omega (arith, in-range (c .before .before) .few)
+cast-head-bits : tie.Need-cast-head-bits Inv-loop μ-loop
+cast-head-bits c = omega (arith, in-range (c .before) .few)
 
-put-head-requires : tie.Need-put-head-requires
-put-head-requires c κs =
+head-bits-requires : tie.Need-head-bits-requires Inv-loop μ-loop
+head-bits-requires c κs = head-fits _ (in-range (c .before)) firstEdition first-holds
+
+loop-holds : tie.Need-loop-holds Inv-loop μ-loop
+loop-holds c =
     let start = c .before .before in
-    ((omega arith, head-fits _ (in-range start) firstEdition first-holds), omega (arith, start .pre .1))
+    let line = start .args .t1 in
+    let head = c .head-bits .ensures ∙ head-group firstEdition first-holds line (in-range start) in (
+      omega arith,
+      in-range start .few,
+      refl,
+      refl,
+      record { room = omega (arith, sheet-length firstEdition line, start .pre .1); stored = sym (at-first firstEdition line _) },
+      record { few = omega arith; next = waits-alone (sheetOf firstEdition line) 0 50 (c .head-bits .result) (omega (arith, sheet-length firstEdition line)) head },
+      none,
+    )
 
-put-entries-requires : tie.Need-put-entries-requires
-put-entries-requires c κs = search needs
+mul-distance : tie.Need-mul-distance Inv-loop μ-loop
+mul-distance c = omega arith
 
-mul-put : tie.Need-mul-put
-mul-put c = search needs
+element-copy-out-distance : tie.Need-element-copy-out-distance Inv-loop μ-loop
+element-copy-out-distance c = omega arith
 
-element-copy-out-put : tie.Need-element-copy-out-put
-element-copy-out-put c = omega (arith, in-range (c .before .before .before .before .before .before .before .before .before .before) .few)
+mul-curve : tie.Need-mul-curve Inv-loop μ-loop
+mul-curve c = omega arith
 
-put-requires : tie.Need-put-requires
+element-copy-out-curve : tie.Need-element-copy-out-curve Inv-loop μ-loop
+element-copy-out-curve c = omega arith
+
+turn-bits-requires : tie.Need-turn-bits-requires Inv-loop μ-loop
+turn-bits-requires c κs = entry-fits _ (in-range (c .before .before .before .before .before .before)) (c .before .before .before .loop .i) (omega arith)
+
+size-bits-requires : tie.Need-size-bits-requires Inv-loop μ-loop
+size-bits-requires c κs = entry-fits _ (in-range (c .before .before .before .before .before .before .before)) (c .before .before .before .before .loop .i) (omega arith) .1
+
+put-requires : tie.Need-put-requires Inv-loop μ-loop
 put-requires c κs =
-    let start = c .before .before .before .before .before .before .before .before .before .before .before in
-    let entries = c .before .before .before .before .put-entries in
-    let head = c .before .before .before .before .before .before .before .before .put-head in
-    (entries .ensures .held, omega arith, distance-fits _ (in-range start) _ (omega arith), omega (arith, entries .ensures .moved, entries .kept .0, head .ensures .moved, head .kept .0, start .pre .1))
+    let start = c .before .before .before .before .before .before .before .before .before in
+    let line = start .args .t1 in
+    let loop = c .before .before .before .before .before .before .loop in
+    let turn = c .before .before .turn-bits .ensures ∙ turn-group firstEdition first-holds line (in-range start) (loop .i) (omega arith) in
+    ((loop .inv .4, loop .inv .5), (omega arith, omega (arith, sheet-length firstEdition line, loop .inv), turn ∙ ap (λ (n : ℕ). bitsAt (sheetOf firstEdition line) n 45) (sym (loop .inv .2))))
 
-byte-count-requires : tie.Need-byte-count-requires
-byte-count-requires c κs = omega (arith, in-range (c .before .before .before .before .before .before .before .before .before .before .before .before .before .before) .few)
-
-mul-fill : tie.Need-mul-fill
-mul-fill c = omega (arith, c .byte-count .ensures, in-range (c .before .before .before .before .before .before .before .before .before .before .before .before .before .before .before) .few)
-
-bit-count-requires : tie.Need-bit-count-requires
-bit-count-requires c κs = omega (arith, in-range (c .before .before .before .before .before .before .before .before .before .before .before .before .before .before .before) .few)
-
-sub-fill : tie.Need-sub-fill
-sub-fill c = search needs
-
-put-requires-2 : tie.Need-put-requires-2
+put-requires-2 : tie.Need-put-requires-2 Inv-loop μ-loop
 put-requires-2 c κs =
-    let start = c .before .before .before .before .before .before .before .before .before .before .before .before .before .before .before .before .before in
-    let head = c .before .before .before .before .before .before .before .before .before .before .before .before .before .before .put-head in
-    let entries = c .before .before .before .before .before .before .before .before .before .before .put-entries in
-    let last = c .before .before .before .before .before .put in
-    (last .ensures .held, omega (arith, in-range start .few), pow-pos _, omega (arith, last .ensures .moved, last .kept .0, entries .ensures .moved, entries .kept .0, head .ensures .moved, head .kept .0, start .pre .1))
+    let start = c .before .before .before .before .before .before .before .before .before .before .before .before .before in
+    let line = start .args .t1 in
+    let loop = c .before .before .before .before .before .before .before .before .before .before .loop in
+    let turned = c .before .before .before .put in
+    let at : entryAt firstEdition (loop .i) + 45 ≡ position (turned .result) = omega (arith, turned .ensures .moved, loop .inv) in
+    let size = c .before .before .before .before .before .size-bits .ensures ∙ size-group firstEdition first-holds line (in-range start) (loop .i) (omega arith) in
+    ((begun-again firstEdition line (loop .inv .4) (turned .ensures) (turned .kept .1 .0), turned .ensures .waits), (omega arith, omega (arith, sheet-length firstEdition line, at), size ∙ ap (λ (n : ℕ). bitsAt (sheetOf firstEdition line) n 42) at))
 
-flush-requires : tie.Need-flush-requires
-flush-requires c κs = search needs
+add-i : tie.Need-add-i Inv-loop μ-loop
+add-i c = omega arith
 
-same-length : tie.Need-same-length
-same-length c = search needs
+loop-less : tie.Need-loop-less Inv-loop μ-loop
+loop-less c = omega arith
 
-returns : tie.Need-returns
+loop-again : tie.Need-loop-again Inv-loop μ-loop
+loop-again c =
+    let line = c .before .before .before .before .before .before .before .before .before .before .before .before .before .before .before .before .args .t1 in
+    let loop = c .before .before .before .before .before .before .before .before .before .before .before .before .before .loop in
+    let turned = c .before .before .before .before .before .before .put in
+    let sized = c .before .before .put2 in
+    let begun = begun-again firstEdition line (loop .inv .4) (turned .ensures) (turned .kept .1 .0) in
+    let first : position (turned .result) ≡ position (loop .pen) + 45 = turned .ensures .moved in
+    let second : position (sized .result) ≡ position (turned .result) + 42 = sized .ensures .moved in (
+      omega (arith, c .before .before .before .before .before .before .before .before .before .before .before .before .loop-test .taken),
+      loop .inv .1,
+      omega (arith, first, second, loop .inv),
+      sized .kept .1 .0 ∙ turned .kept .1 .0 ∙ loop .inv .3,
+      begun-again firstEdition line begun (sized .ensures) (sized .kept .1 .0),
+      sized .ensures .waits,
+      stores-then firstEdition line (stores-then firstEdition line (loop .inv .6) (turned .ensures .stores)) (sized .ensures .stores),
+    )
+
+byte-count-requires : tie.Need-byte-count-requires Inv-loop μ-loop
+byte-count-requires c κs = omega (arith, in-range (c .before .before .before .before) .few)
+
+mul-fill : tie.Need-mul-fill Inv-loop μ-loop
+mul-fill c = omega (arith, c .byte-count .ensures, in-range (c .before .before .before .before .before) .few)
+
+bit-count-requires : tie.Need-bit-count-requires Inv-loop μ-loop
+bit-count-requires c κs = omega (arith, in-range (c .before .before .before .before .before) .few)
+
+sub-fill : tie.Need-sub-fill Inv-loop μ-loop
+sub-fill c = omega (arith, c .bit-count .ensures, c .before .byte-count .ensures)
+
+mul-beside : tie.Need-mul-beside Inv-loop μ-loop
+mul-beside c = omega (arith, in-range (c .before .before .before .before .before .before) .few)
+
+element-copy-out-beside : tie.Need-element-copy-out-beside Inv-loop μ-loop
+element-copy-out-beside c = omega (arith, in-range (c .before .before .before .before .before .before) .few)
+
+cast-beside : tie.Need-cast-beside Inv-loop μ-loop
+cast-beside c = search needs
+
+beside-requires : tie.Need-beside-requires Inv-loop μ-loop
+beside-requires c κs =
+    let start = c .before .before .before .before .before .before .before in
+    let line = start .args .t1 in
+    let fits : distanceAt line (line .count) < 2 ^ 25 = distance-fits line (in-range start) (line .count) (omega arith) in
+    (omega (arith, fits), omega (arith, c .before .bit-count .ensures, c .before .before .byte-count .ensures), pow-pos _)
+
+add-put : tie.Need-add-put Inv-loop μ-loop
+add-put c = omega (arith, c .before .before .before .bit-count .ensures, c .before .before .before .before .byte-count .ensures)
+
+put-requires-3 : tie.Need-put-requires-3 Inv-loop μ-loop
+put-requires-3 c κs =
+    let start = c .before .before .before .before .before .before .before .before .before in
+    let line = start .args .t1 in
+    let loop = c .before .before .before .before .before .before .loop in
+    let fill : 8 * c .before .before .before .before .byte-count .result - c .before .before .before .bit-count .result ≡ fillWidth firstEdition (line .count) =
+    omega (arith, c .before .before .before .bit-count .ensures, c .before .before .before .before .byte-count .ensures) in
+    let at : entryAt firstEdition (line .count) ≡ position (loop .pen) = omega (arith, loop .inv, c .before .before .before .before .before .loop-test .left) in
+    let last = c .before .beside .ensures ∙ ap (λ (n : ℕ). distanceAt line (line .count) * 2 ^ n + 0) fill ∙ last-group firstEdition first-holds line (in-range start)
+    ∙ (λ i. bitsAt (sheetOf firstEdition line) (at i) (distanceWidth + sym fill i)) in
+    ((loop .inv .4, loop .inv .5), (omega (arith, fill), omega (arith, fill, sheet-length firstEdition line, at), last))
+
+store-bytes-requires : tie.Need-store-bytes-requires Inv-loop μ-loop
+store-bytes-requires c κs =
+    let line = c .before .before .before .before .before .before .before .before .before .before .before .before .before .args .t1 in
+    let loop = c .before .before .before .before .before .before .before .before .before .before .loop in
+    let last = c .before .before .before .put3 in
+    let end : position (last .result) ≡ 8 * byteCount firstEdition (line .count) =
+    at-end line (loop .pen) (last .result) (omega (arith, loop .inv, c .before .before .before .before .before .before .before .before .before .loop-test .left)) (last .ensures .moved) (omega (arith, c .before .before .before .before .before .before .before .bit-count .ensures, c .before .before .before .before .before .before .before .before .byte-count .ensures)) in
+    (begun-again firstEdition line (loop .inv .4) (last .ensures) (last .kept .1 .0), (omega (arith, last .ensures .waits .few), omega (arith, end, sheet-length firstEdition line), last .ensures .waits .next))
+
+same-length : tie.Need-same-length Inv-loop μ-loop
+same-length c = c .before .before .store-bytes .kept .1 .0 ∙ c .before .before .before .before .before .before .put3 .kept .1 .0 ∙ c .before .before .before .before .before .before .before .before .before .before .before .before .before .loop .inv .3
+
+returns : tie.Need-returns Inv-loop μ-loop
 returns c =
-    let start = c .before .before .before .before .before .before .before .before .before .before .before .before .before .before .before .before .before .before .before .before .before .before .before .before in
-    let head = c .before .before .before .before .before .before .before .before .before .before .before .before .before .before .before .before .before .before .before .before .before .put-head in
-    let entries = c .before .before .before .before .before .before .before .before .before .before .before .before .before .before .before .before .before .put-entries in
-    let last = c .before .before .before .before .before .before .before .before .before .before .before .before .put in
-    let fill = c .before .before .before .before .before .before .put2 in
-    let flushed = c .before .before .flush in
-    sheet-written firstEdition (start .args .t1) (head .ensures) (entries .ensures) (last .ensures) (fill .ensures) (flushed .ensures .0)
-    (omega (arith, c .before .before .before .before .before .before .before .before .bit-count .ensures, c .before .before .before .before .before .before .before .before .before .byte-count .ensures)) (flushed .ensures .1) (start .pre .1)
-    (flushed .kept .0 ∙ fill .kept .0 ∙ last .kept .0 ∙ entries .kept .0 ∙ head .kept .0) (λ i. c .slice-known6 .given i .fits)
+    let line = c .before .before .before .before .before .before .before .before .before .before .before .before .before .before .before .before .args .t1 in
+    let loop = c .before .before .before .before .before .before .before .before .before .before .before .before .before .loop in
+    let last = c .before .before .before .before .before .before .put3 in
+    let rest = c .before .before .store-bytes in
+    let end : position (last .result) ≡ 8 * byteCount firstEdition (line .count) =
+    at-end line (loop .pen) (last .result) (omega (arith, loop .inv, c .before .before .before .before .before .before .before .before .before .before .before .before .loop-test .left)) (last .ensures .moved) (omega (arith, c .before .before .before .before .before .before .before .before .before .before .bit-count .ensures, c .before .before .before .before .before .before .before .before .before .before .before .byte-count .ensures)) in
+    let all : last .result .at + last .result .held / 8 ≡ byteCount firstEdition (line .count) = omega (arith, end) in
+    rw (← all) (stores-then firstEdition line (stores-then firstEdition line (loop .inv .6) (last .ensures .stores)) (rest .ensures))
 
 pub write-sheet-spec : {M : Type 1} → statement M
 write-sheet-spec =
     tie.close
     (tie.spec
-    cast-put-head
-    put-head-requires
-    put-entries-requires
-    mul-put
-    element-copy-out-put
+    Inv-loop
+    μ-loop
+    cast-head-bits
+    head-bits-requires
+    loop-holds
+    mul-distance
+    element-copy-out-distance
+    mul-curve
+    element-copy-out-curve
+    turn-bits-requires
+    size-bits-requires
     put-requires
+    put-requires-2
+    add-i
+    loop-less
+    loop-again
     byte-count-requires
     mul-fill
     bit-count-requires
     sub-fill
-    put-requires-2
-    flush-requires
+    mul-beside
+    element-copy-out-beside
+    cast-beside
+    beside-requires
+    add-put
+    put-requires-3
+    store-bytes-requires
     same-length
     returns)
