@@ -1,16 +1,16 @@
 -- The fields of a line's sheet in the groups that the writer puts, each as one field of the sheet. Assumes nothing.
 use mathlib.Core.Path.{_≡_, sym, _∙_, ap}
 use mathlib.Core.List.{List, [], _∷_}
-use Prim.Native.Nat.{ℕ, _+_, _*_, _^_, _≤_, _<_}
+use Prim.Native.Nat.{ℕ, _+_, _*_, _≤_, _<_}
 use native.Mathlib.Nat.{zero-mul, zero-add}
 use native.Mathlib.Omega.{arith}
-use lib.ListN.{length, take, drop}
+use lib.ListN.{length, take, drop, getD}
 use Rattle.line.specs.declared.Line.{Line}
 use Rattle.line.specs.Checks.{distanceAt}
 use Rattle.line.specs.Ranges.{LineInRange}
 use Rattle.bits.specs.Bits.{bitsAt, valuesAt, packed, total}
 use Rattle.bits.proofs.Words.{as-one}
-use Rattle.packed_sheet.specs.Layout.{Edition, Holds, headWidths, distanceWidth, entryWidths, entryAt, fillWidth}
+use Rattle.packed_sheet.specs.Layout.{Edition, Holds, headWidths, distanceWidth, entryWidths, entryAt, bitCount, fillWidth}
 use Rattle.packed_sheet.specs.Writing.{headValues, entryValues, sheetOf}
 use Rattle.packed_sheet.proofs.WaysOut.{sheet-length}
 use Rattle.packed_sheet.proofs.ReadAgain.{head-fields-again, entry-again, last-again}
@@ -42,15 +42,12 @@ module _ (E : Edition) (holds : Holds E) (line : Line) (ok : LineInRange line) w
         (ap (drop 3) (entry-again E holds line ok i h))
         ∙ ap (λ (b : ℕ). bitsAt (sheetOf E line) b 42) from
 
-  -- The last distance, and the zero bits of the fill.
-  pub last-group : distanceAt line (line .count) * 2 ^ fillWidth E (line .count) + 0
-      ≡ bitsAt (sheetOf E line) (entryAt E (line .count)) (distanceWidth + fillWidth E (line .count))
-  unfolding packed
-  last-group =
-      let s : List ℕ = sheetOf E line in
-      let from : ℕ = entryAt E (line .count) in
-      let fill : ℕ = fillWidth E (line .count) in
-      let width : total (distanceWidth ∷ fill ∷ []) ≡ distanceWidth + fill = omega arith in
-      ap (λ (n : ℕ). n * 2 ^ fill + 0) (sym (zero-add (distanceAt line (line .count))))
-      ∙ group s from (distanceWidth ∷ fill ∷ []) _ (omega (arith, sheet-length E line)) (last-again E holds line ok .1)
-      ∙ ap (bitsAt s from) width
+  -- The last distance.
+  pub last-distance : distanceAt line (line .count) ≡ bitsAt (sheetOf E line) (entryAt E (line .count)) distanceWidth
+  unfolding valuesAt
+  last-distance = ap (λ (l : List ℕ). getD l 0 0) (sym (last-again E holds line ok .1))
+
+  -- The zero bits that fill the last byte.
+  pub fill-bits : 0 ≡ bitsAt (sheetOf E line) (bitCount E (line .count)) (fillWidth E (line .count))
+  unfolding valuesAt
+  fill-bits = ap (λ (l : List ℕ). getD l 1 0) (sym (last-again E holds line ok .1))

@@ -42,7 +42,7 @@ pub(crate) fn store_bytes(line: Line, bytes: &mut [u8], at: usize, word: u64, he
 }
 
 // The bits of `pending` with `width` bits behind them, as far as 64 hold.
-fn join(pending: u64, width: usize, value: u64) -> u64
+pub(crate) fn join(pending: u64, width: usize, value: u64) -> u64
     requires { ⌜ (width < 64) × (value < 2 ^ width) ⌝ }
     ensures { λ r. ⌜ ((held : ℕ) → held + width ≤ 64 → r % 2 ^ (held + width) ≡ pending % 2 ^ held * 2 ^ width + value) ⌝ }
 {

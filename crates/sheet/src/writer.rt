@@ -6,11 +6,12 @@ ghost use lib.ListN.{length, take, drop};
 ghost use Rattle.refusals.specs.Outcomes.{passed};
 ghost use Rattle.refusals.specs.Filling.{fillReplyOf};
 ghost use Rattle.refusals.specs.Order.{outcome};
-ghost use Rattle.line.specs.Checks.{lineChecks};
+ghost use Rattle.line.specs.Checks.{distanceAt, lineChecks};
 ghost use Rattle.bits.specs.Bits.{packed, Fit};
-ghost use Rattle.packed_sheet.specs.Layout.{firstEdition, headWidths, curveWidths, entryWidths, byteCount};
+ghost use Rattle.packed_sheet.specs.Layout.{firstEdition, headWidths, curveWidths, entryWidths, entryAt, byteCount};
 ghost use Rattle.packed_sheet.specs.Writing.{curveValues, sheetIn};
 ghost use Rattle.packed_sheet.specs.EachStore.{Stores};
+ghost use Rattle.sheet.specs.Pens.{position, Begun, Waits};
 use crate::layout::COUNT;
 use crate::layout::CROSSFALL;
 use crate::layout::DEFLECTION;
@@ -25,6 +26,7 @@ use crate::layout::TURN;
 use crate::layout::bit_count;
 use crate::layout::byte_count;
 use crate::pen::Pen;
+use crate::pen::join;
 use crate::pen::put;
 use crate::pen::store_bytes;
 use line::Curve;
@@ -71,6 +73,19 @@ fn size_bits(curve: Curve) -> u64
     beside(curve.radius as u64, SPIRAL, curve.spiral)
 }
 
+// The last distance, behind head and entries, and the zero bits that fill the last byte.
+fn put_end(line: Line, bytes: &mut [u8], pen: Pen, distance: u32)
+    requires { ⌜ (outcome (lineChecks line) ≡ passed) × (distance ≡ distanceAt line (line .count)) ⌝ }
+    requires { ⌜ Begun firstEdition line (now bytes) (pen .at) × Waits firstEdition line pen × (position pen ≡ entryAt firstEdition (line .count)) ⌝ }
+    ensures { λ _. ⌜ Stores firstEdition line (pen .at) (now (bytes .entry)) (byteCount firstEdition (line .count)) (now (bytes .exit)) ⌝ }
+{
+    let n = line.count;
+    let last = put(line, &mut *bytes, pen, DISTANCE, distance as u64);
+    let fill = 8 * byte_count(n) - bit_count(n);
+    let word = join(last.pending, fill, 0);
+    store_bytes(line, &mut *bytes, last.at, word, last.held + fill);
+}
+
 // The sheet of a line that passes, at the front of bytes that are enough: head, distances and curves, the last distance and the fill.
 fn write_sheet(line: Line, bytes: &mut [u8])
     requires { ⌜ outcome (lineChecks line) ≡ passed ⌝ }
@@ -93,10 +108,8 @@ fn write_sheet(line: Line, bytes: &mut [u8])
         pen = put(line, &mut *bytes, turned, SIZE, size);
         i += 1;
     }
-    let fill = 8 * byte_count(n) - bit_count(n);
-    let end = beside(line.distances[n] as u64, fill, 0);
-    let last = put(line, &mut *bytes, pen, DISTANCE + fill, end);
-    store_bytes(line, &mut *bytes, last.at, last.pending, last.held);
+    let distance = line.distances[n];
+    put_end(line, &mut *bytes, pen, distance);
 }
 
 // The sheet of a line, at the front of `bytes`. Answers its length in bytes, or the first refusal in document 01's order: 3 to

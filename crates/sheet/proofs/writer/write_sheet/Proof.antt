@@ -1,24 +1,19 @@
 -- `write_sheet` meets its contract: after i turns the head and the first i entries are put, and what is stored of them was stored byte by byte.
 -- Assumes nothing.
 use mathlib.Core.Path.{_≡_, refl, sym, _∙_, ap}
-use Prim.Native.Nat.{ℕ, _+_, _-_, _*_, _/_, _^_, _≤_, _<_}
+use Prim.Native.Nat.{ℕ, _+_, _-_, _≤_}
 use native.Mathlib.Omega.{arith}
-use borrow.Author.Needs.{needs}
 use lib.ListN.{length}
-use lib.Pow.{pow-pos}
-use Rattle.line.specs.declared.Line.{Line}
-use Rattle.line.specs.Checks.{distanceAt}
 use Rattle.line.specs.Ranges.{LineInRange}
 use Rattle.line.proofs.InRange.{line-in-range}
 use Rattle.bits.specs.Bits.{bitsAt}
-use Rattle.packed_sheet.specs.Layout.{firstEdition, distanceWidth, entryAt, byteCount, fillWidth}
+use Rattle.packed_sheet.specs.Layout.{firstEdition, entryAt}
 use Rattle.packed_sheet.specs.Writing.{sheetOf}
 use Rattle.packed_sheet.specs.EachStore.{Stores, none}
 use Rattle.packed_sheet.proofs.WaysOut.{sheet-length}
-use Rattle.packed_sheet.proofs.Fitting.{first-holds, head-fits, distance-fits, entry-fits}
-use Rattle.packed_sheet.proofs.FieldGroups.{head-group, turn-group, size-group, last-group}
+use Rattle.packed_sheet.proofs.Fitting.{first-holds, head-fits, entry-fits}
+use Rattle.packed_sheet.proofs.FieldGroups.{head-group, turn-group, size-group}
 use Rattle.packed_sheet.proofs.SoFar.{at-first, stores-then}
-use Rattle.sheet.specs.declared.pen.Pen.{Pen}
 use Rattle.sheet.specs.Pens.{position, Begun, Waits}
 use Rattle.sheet.proofs.Pens.{waits-alone, begun-again}
 use Rattle.sheet.proofs.writer.write_sheet.Statement.{statement}
@@ -36,11 +31,6 @@ Inv-loop bytes₀ line n pen₀ i₀ bytes pen i =
 
 abbrev μ-loop : tie.MeasureT-loop
 μ-loop bytes₀ line n pen₀ i₀ bytes pen i = n - i
-
--- The last distance and the fill end at a whole byte, the last of the sheet.
-at-end : (line : Line) (p q : Pen) {fill : ℕ} → position p ≡ entryAt firstEdition (line .count) → position q ≡ position p + (25 + fill)
-    → fill ≡ fillWidth firstEdition (line .count) → position q ≡ 8 * byteCount firstEdition (line .count)
-at-end line p q e moved f = omega arith
 
 in-range : (c : tie.Start Inv-loop μ-loop) → LineInRange (c .args .t1)
 in-range c = line-in-range (c .args .t1) (c .pre .0)
@@ -125,71 +115,23 @@ loop-again c =
       stores-then firstEdition line (stores-then firstEdition line (loop .inv .6) (turned .ensures .stores)) (sized .ensures .stores),
     )
 
-byte-count-requires : tie.Need-byte-count-requires Inv-loop μ-loop
-byte-count-requires c κs = omega (arith, in-range (c .before .before .before .before) .few)
+mul-distance-2 : tie.Need-mul-distance-2 Inv-loop μ-loop
+mul-distance-2 c = omega arith
 
-mul-fill : tie.Need-mul-fill Inv-loop μ-loop
-mul-fill c = omega (arith, c .byte-count .ensures, in-range (c .before .before .before .before .before) .few)
+element-copy-out-distance-2 : tie.Need-element-copy-out-distance-2 Inv-loop μ-loop
+element-copy-out-distance-2 c = omega arith
 
-bit-count-requires : tie.Need-bit-count-requires Inv-loop μ-loop
-bit-count-requires c κs = omega (arith, in-range (c .before .before .before .before .before) .few)
-
-sub-fill : tie.Need-sub-fill Inv-loop μ-loop
-sub-fill c = omega (arith, c .bit-count .ensures, c .before .byte-count .ensures)
-
-mul-beside : tie.Need-mul-beside Inv-loop μ-loop
-mul-beside c = omega (arith, in-range (c .before .before .before .before .before .before) .few)
-
-element-copy-out-beside : tie.Need-element-copy-out-beside Inv-loop μ-loop
-element-copy-out-beside c = omega (arith, in-range (c .before .before .before .before .before .before) .few)
-
-cast-beside : tie.Need-cast-beside Inv-loop μ-loop
-cast-beside c = search needs
-
-beside-requires : tie.Need-beside-requires Inv-loop μ-loop
-beside-requires c κs =
-    let start = c .before .before .before .before .before .before .before in
-    let line = start .args .t1 in
-    let fits : distanceAt line (line .count) < 2 ^ 25 = distance-fits line (in-range start) (line .count) (omega arith) in
-    (omega (arith, fits), omega (arith, c .before .bit-count .ensures, c .before .before .byte-count .ensures), pow-pos _)
-
-add-put : tie.Need-add-put Inv-loop μ-loop
-add-put c = omega (arith, c .before .before .before .bit-count .ensures, c .before .before .before .before .byte-count .ensures)
-
-put-requires-3 : tie.Need-put-requires-3 Inv-loop μ-loop
-put-requires-3 c κs =
-    let start = c .before .before .before .before .before .before .before .before .before in
-    let line = start .args .t1 in
-    let loop = c .before .before .before .before .before .before .loop in
-    let fill : 8 * c .before .before .before .before .byte-count .result - c .before .before .before .bit-count .result ≡ fillWidth firstEdition (line .count) =
-    omega (arith, c .before .before .before .bit-count .ensures, c .before .before .before .before .byte-count .ensures) in
-    let at : entryAt firstEdition (line .count) ≡ position (loop .pen) = omega (arith, loop .inv, c .before .before .before .before .before .loop-test .left) in
-    let last = c .before .beside .ensures ∙ ap (λ (n : ℕ). distanceAt line (line .count) * 2 ^ n + 0) fill ∙ last-group firstEdition first-holds line (in-range start)
-    ∙ (λ i. bitsAt (sheetOf firstEdition line) (at i) (distanceWidth + sym fill i)) in
-    ((loop .inv .4, loop .inv .5), (omega (arith, fill), omega (arith, fill, sheet-length firstEdition line, at), last))
-
-store-bytes-requires : tie.Need-store-bytes-requires Inv-loop μ-loop
-store-bytes-requires c κs =
-    let line = c .before .before .before .before .before .before .before .before .before .before .before .before .before .args .t1 in
-    let loop = c .before .before .before .before .before .before .before .before .before .before .loop in
-    let last = c .before .before .before .put3 in
-    let end : position (last .result) ≡ 8 * byteCount firstEdition (line .count) =
-    at-end line (loop .pen) (last .result) (omega (arith, loop .inv, c .before .before .before .before .before .before .before .before .before .loop-test .left)) (last .ensures .moved) (omega (arith, c .before .before .before .before .before .before .before .bit-count .ensures, c .before .before .before .before .before .before .before .before .byte-count .ensures)) in
-    (begun-again firstEdition line (loop .inv .4) (last .ensures) (last .kept .1 .0), (omega (arith, last .ensures .waits .few), omega (arith, end, sheet-length firstEdition line), last .ensures .waits .next))
+put-end-requires : tie.Need-put-end-requires Inv-loop μ-loop
+put-end-requires c κs =
+    let start = c .before .before .before .before .before .before in
+    let loop = c .before .before .before .loop in
+    ((start .pre .0, refl), (loop .inv .4, loop .inv .5, omega (arith, loop .inv, c .before .before .loop-test .left)))
 
 same-length : tie.Need-same-length Inv-loop μ-loop
-same-length c = c .before .before .store-bytes .kept .1 .0 ∙ c .before .before .before .before .before .before .put3 .kept .1 .0 ∙ c .before .before .before .before .before .before .before .before .before .before .before .before .before .loop .inv .3
+same-length c = c .before .before .put-end .kept .1 .0 ∙ c .before .before .before .before .before .before .loop .inv .3
 
 returns : tie.Need-returns Inv-loop μ-loop
-returns c =
-    let line = c .before .before .before .before .before .before .before .before .before .before .before .before .before .before .before .before .args .t1 in
-    let loop = c .before .before .before .before .before .before .before .before .before .before .before .before .before .loop in
-    let last = c .before .before .before .before .before .before .put3 in
-    let rest = c .before .before .store-bytes in
-    let end : position (last .result) ≡ 8 * byteCount firstEdition (line .count) =
-    at-end line (loop .pen) (last .result) (omega (arith, loop .inv, c .before .before .before .before .before .before .before .before .before .before .before .before .loop-test .left)) (last .ensures .moved) (omega (arith, c .before .before .before .before .before .before .before .before .before .before .bit-count .ensures, c .before .before .before .before .before .before .before .before .before .before .before .byte-count .ensures)) in
-    let all : last .result .at + last .result .held / 8 ≡ byteCount firstEdition (line .count) = omega (arith, end) in
-    rw (← all) (stores-then firstEdition line (stores-then firstEdition line (loop .inv .6) (last .ensures .stores)) (rest .ensures))
+returns c = stores-then firstEdition (c .before .before .before .before .before .before .before .before .before .args .t1) (c .before .before .before .before .before .before .loop .inv .6) (c .before .before .put-end .ensures)
 
 pub write-sheet-spec : {M : Type 1} → statement M
 write-sheet-spec =
@@ -211,16 +153,8 @@ write-sheet-spec =
     add-i
     loop-less
     loop-again
-    byte-count-requires
-    mul-fill
-    bit-count-requires
-    sub-fill
-    mul-beside
-    element-copy-out-beside
-    cast-beside
-    beside-requires
-    add-put
-    put-requires-3
-    store-bytes-requires
+    mul-distance-2
+    element-copy-out-distance-2
+    put-end-requires
     same-length
     returns)
