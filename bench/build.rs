@@ -4,7 +4,7 @@ use std::env;
 use std::path::{Path, PathBuf};
 use std::process::{exit, Command};
 
-const SOURCES: [&str; 2] = ["c/baseline.c", "c/from_points.c"];
+const SOURCES: [&str; 3] = ["c/baseline.c", "c/from_points.c", "c/rewrite.c"];
 
 fn main() {
     let folder = env::var("OUT_DIR").expect("cargo names OUT_DIR");

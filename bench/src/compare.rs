@@ -43,13 +43,24 @@ fn compare_road(
     match task {
         Task::Read => same(library.read(sheet), reference.read(sheet)),
         Task::Write => same(library.write(line), reference.write(line)),
-        Task::Rewrite => same(library.rewrite(sheet), reference.rewrite(sheet)),
+        Task::Rewrite => compare_rewrite(sheet, library, reference),
         Task::Stations => same(library.stations(sheet), reference.stations(sheet)),
         Task::Peg => same(library.peg(sheet, *station), reference.peg(sheet, *station)),
         Task::Check => same(library.check(sheet), reference.check(sheet)),
         Task::Text => same(library.text(sheet), reference.text(sheet)),
         Task::Points | Task::Elements => unreachable!("they have inputs of their own"),
     }
+}
+
+/// Fails when a sheet read and written again has two answers.
+pub fn compare_rewrite(
+    sheet: &[u8],
+    library: &mut Library,
+    reference: &mut Reference,
+) -> Result<(), String> {
+    let answer = library.rewrite(sheet);
+    same(answer, reference.rewrite(sheet))?;
+    same_as("the C baseline", answer, Baseline::new().rewrite(sheet))
 }
 
 fn compare_survey(

@@ -23,7 +23,7 @@ pub enum Task {
 impl Task {
     /// Whether it is timed in plain C too.
     pub fn in_c(self) -> bool {
-        matches!(self, Task::Points | Task::Elements)
+        matches!(self, Task::Rewrite | Task::Points | Task::Elements)
     }
 }
 
@@ -190,6 +190,11 @@ fn each_road<S: Side>(task: Task, side: &mut S, roads: &[Road]) {
 pub fn work_baseline(job: Job, baseline: &mut Baseline, inputs: &Inputs, times: usize) {
     for _ in 0..times {
         match job.task {
+            Task::Rewrite => {
+                for Road { sheet, .. } in job.roads(inputs) {
+                    keep(baseline.rewrite(black_box(&sheet[..])));
+                }
+            }
             Task::Points => {
                 for survey in job.surveys(inputs) {
                     keep(baseline.line_from_points(black_box(survey)));
@@ -206,6 +211,6 @@ pub fn work_baseline(job: Job, baseline: &mut Baseline, inputs: &Inputs, times: 
 }
 
 /// Takes an answer, so that the compiler must work it out.
-fn keep<T>(answer: T) {
+pub fn keep<T>(answer: T) {
     black_box(answer);
 }

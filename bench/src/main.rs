@@ -1,6 +1,7 @@
-//! Times the proved library against the reference, and against plain C for a line
-//! from points and the elements of one curve.
+//! Times the proved library against the reference, and against plain C for a sheet
+//! rewritten, a line from points and the elements of one curve.
 
+mod archive;
 mod arguments;
 mod baseline;
 mod command;
@@ -15,13 +16,14 @@ mod side;
 mod surveys;
 mod table;
 
+use archive::Archive;
 use arguments::{Options, Request, USAGE};
 use baseline::Baseline;
 use compare::{compare, largest_baseline_difference};
 use inputs::Inputs;
 use job::{work, work_baseline, Job, JOBS, PEG_BESIDE_STATIONS};
 use library::Library;
-use measure::{alternate, time, Work};
+use measure::{alternate, sure, time, Work};
 use reference_side::Reference;
 use std::process::ExitCode;
 use std::time::Duration;
@@ -77,9 +79,11 @@ fn measure_all(options: &Options) -> Result<(), String> {
     let programs = options.station_programs()?;
     let command = options.command_programs()?;
     let inputs = Inputs::make();
+    let archive = Archive::make(options);
     for job in JOBS {
         compare(job, &inputs)?;
     }
+    archive::compare(&archive)?;
     print_preface(options, &inputs);
     table::print_heading();
     for job in JOBS {
@@ -94,7 +98,8 @@ fn measure_all(options: &Options) -> Result<(), String> {
         None => None,
     };
     print_notes(&inputs, process, rates);
-    print_peg_ratios(options, &inputs)
+    print_peg_ratios(options, &inputs)?;
+    archive::measure(&archive, options)
 }
 
 fn print_preface(options: &Options, inputs: &Inputs) {
@@ -117,7 +122,7 @@ fn print_notes(inputs: &Inputs, process: Option<f64>, rates: Option<String>) {
         println!("(***) Times of one sheet, read from its file, in metres. {rates}");
     }
     let difference = largest_baseline_difference(inputs);
-    println!("C: plain C with libm. Lines from points with every check, and the same answers;");
+    println!("C: plain C. Sheets and lines from points with every check, and the same answers;");
     println!("elements in f64 without checks, at most {difference:.1} µm from the library.");
 }
 
@@ -163,14 +168,6 @@ fn works(job: Job, inputs: &Inputs, times: usize) -> Vec<Work<'_>> {
         }));
     }
     works
-}
-
-/// Work that cannot fail.
-fn sure<'a>(mut work: impl FnMut() + 'a) -> Work<'a> {
-    Box::new(move || {
-        work();
-        Ok(())
-    })
 }
 
 /// How many times a round goes through the inputs, the same for both sides.

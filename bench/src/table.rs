@@ -37,3 +37,27 @@ pub fn print_ratio(name: &str, times: &Times, others: &Times) {
     let half = middle_half(times, others);
     println!("  {name}: {ratio:.2}, its middle half {half}");
 }
+
+/// The time of each side's call and how many it makes in a second; the ratio of the
+/// library's time, which stands first, to each of the others.
+pub fn print_rates(names: &[&str], times: &[Times]) {
+    println!(
+        "  {:<12} {:>10} {:>16} {:>7}  its middle half",
+        "", "ns a sheet", "sheets a second", "ratio"
+    );
+    let library = &times[0];
+    for (i, (name, times)) in names.iter().zip(times).enumerate() {
+        let time = times.median();
+        let rate = 1e9 / time;
+        let ratio = match i {
+            0 => String::new(),
+            _ => format!(
+                "{:>7.2}  {}",
+                library.median() / time,
+                middle_half(library, times)
+            ),
+        };
+        let row = format!("  {name:<12} {time:>10.1} {rate:>16.0} {ratio}");
+        println!("{}", row.trim_end());
+    }
+}
