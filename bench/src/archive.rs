@@ -2,6 +2,8 @@
 
 use crate::arguments::Options;
 use crate::baseline::Baseline;
+#[cfg(before)]
+use crate::before::Before;
 use crate::compare::compare_rewrite;
 use crate::job::keep;
 use crate::library::Library;
@@ -111,6 +113,8 @@ pub fn measure(archive: &Archive, options: &Options) -> Result<(), String> {
 fn works(archive: &Archive) -> Vec<(&'static str, Work<'_>)> {
     let (mut library, mut reference) = (Library::new(), Reference::new());
     let mut baseline = Baseline::new();
+    #[cfg(before)]
+    let mut before = Before::new();
     vec![
         (
             "library",
@@ -123,6 +127,11 @@ fn works(archive: &Archive) -> Vec<(&'static str, Work<'_>)> {
         (
             "C",
             each(archive, move |sheet| keep(baseline.rewrite(sheet))),
+        ),
+        #[cfg(before)]
+        (
+            "before",
+            each(archive, move |sheet| keep(before.rewrite(sheet))),
         ),
     ]
 }

@@ -1,6 +1,8 @@
 //! Before a job is timed, the answers of all sides are compared for each input.
 
 use crate::baseline::Baseline;
+#[cfg(before)]
+use crate::before::Before;
 use crate::inputs::{Inputs, Road};
 use crate::job::{Job, Task};
 use crate::library::Library;
@@ -42,7 +44,7 @@ fn compare_road(
 ) -> Result<(), String> {
     match task {
         Task::Read => same(library.read(sheet), reference.read(sheet)),
-        Task::Write => same(library.write(line), reference.write(line)),
+        Task::Write => compare_write(line, library, reference),
         Task::Rewrite => compare_rewrite(sheet, library, reference),
         Task::Stations => same(library.stations(sheet), reference.stations(sheet)),
         Task::Peg => same(library.peg(sheet, *station), reference.peg(sheet, *station)),
@@ -52,6 +54,17 @@ fn compare_road(
     }
 }
 
+fn compare_write(
+    line: &[u32],
+    library: &mut Library,
+    reference: &mut Reference,
+) -> Result<(), String> {
+    let answer = library.write(line);
+    #[cfg(before)]
+    same_as("the library before", answer, Before::new().write(line))?;
+    same(answer, reference.write(line))
+}
+
 /// Fails when a sheet read and written again has two answers.
 pub fn compare_rewrite(
     sheet: &[u8],
@@ -59,6 +72,8 @@ pub fn compare_rewrite(
     reference: &mut Reference,
 ) -> Result<(), String> {
     let answer = library.rewrite(sheet);
+    #[cfg(before)]
+    same_as("the library before", answer, Before::new().rewrite(sheet))?;
     same(answer, reference.rewrite(sheet))?;
     same_as("the C baseline", answer, Baseline::new().rewrite(sheet))
 }

@@ -4,6 +4,8 @@
 mod archive;
 mod arguments;
 mod baseline;
+#[cfg(before)]
+mod before;
 mod command;
 mod compare;
 mod inputs;
@@ -104,8 +106,8 @@ fn measure_all(options: &Options) -> Result<(), String> {
 
 fn print_preface(options: &Options, inputs: &Inputs) {
     let rounds = options.rounds();
-    println!("Medians of {rounds} rounds, library, reference and C in turn.");
-    println!("Ratio: library / reference, and library / C, below 1 where the library is faster.");
+    println!("Medians of {rounds} rounds, the library and the others in turn.");
+    println!("Ratio: the library's time / the other's, below 1 where the library is faster.");
     println!("Inputs, in turn: {}.", inputs.words());
     println!("Buffers are used again and not cleared first.");
     println!("All answers are compared before they are timed.\n");
@@ -124,6 +126,9 @@ fn print_notes(inputs: &Inputs, process: Option<f64>, rates: Option<String>) {
     let difference = largest_baseline_difference(inputs);
     println!("C: plain C. Sheets and lines from points with every check, and the same answers;");
     println!("elements in f64 without checks, at most {difference:.1} µm from the library.");
+    if cfg!(before) {
+        println!("Before: the library that POKYANDI_BEFORE named when the bench was built.");
+    }
 }
 
 /// The time of a peg over that of the stations of the same sheets.
@@ -150,11 +155,18 @@ fn measure_job(job: Job, options: &Options, inputs: &Inputs) -> Result<(), Strin
     let mut works = works(job, inputs, times);
     let calls = times * job.input_count(inputs);
     let results = alternate(options.rounds(), calls, &mut works)?;
-    table::print_row(job.title, &results[0], &results[1], results.get(2));
+    let mut others = results[2..].iter();
+    let c = if job.task.in_c() { others.next() } else { None };
+    table::print_row(
+        job.title,
+        &results[0],
+        &[Some(&results[1]), c, others.next()],
+    );
     Ok(())
 }
 
-/// The work of library and reference, and of C where it has the job.
+/// The work of library and reference, of C where it has the job, and of the library
+/// before where there is one and the job writes.
 fn works(job: Job, inputs: &Inputs, times: usize) -> Vec<Work<'_>> {
     let (mut library, mut reference) = (Library::new(), Reference::new());
     let mut works = vec![
@@ -167,6 +179,8 @@ fn works(job: Job, inputs: &Inputs, times: usize) -> Vec<Work<'_>> {
             work_baseline(job, &mut baseline, inputs, times)
         }));
     }
+    #[cfg(before)]
+    works.extend(before::work(job, inputs, times));
     works
 }
 
