@@ -1,10 +1,17 @@
-//! Compiles the C baselines and makes a static library of them.
+//! Compiles the C baselines and makes a static library of them. Where the variable
+//! POKYANDI_BEFORE names the folder of another libpokyandi.a, links that too.
 
 use std::env;
 use std::path::{Path, PathBuf};
 use std::process::{exit, Command};
 
-const SOURCES: [&str; 2] = ["c/baseline.c", "c/from_points.c"];
+/// The calls of the library before, and their names in the bench.
+const BEFORE: [[&str; 2]; 2] = [
+    ["pokyandi_write", "before_write"],
+    ["pokyandi_rewrite", "before_rewrite"],
+];
+
+const SOURCES: [&str; 3] = ["c/baseline.c", "c/from_points.c", "c/rewrite.c"];
 
 fn main() {
     let folder = env::var("OUT_DIR").expect("cargo names OUT_DIR");
@@ -14,6 +21,34 @@ fn main() {
     println!("cargo:rustc-link-search=native={folder}");
     println!("cargo:rustc-link-lib=static=baseline");
     println!("cargo:rustc-link-lib=m");
+    println!("cargo:rustc-check-cfg=cfg(before)");
+    println!("cargo:rerun-if-env-changed=POKYANDI_BEFORE");
+    if let Some(before) = env::var_os("POKYANDI_BEFORE") {
+        link_before(
+            &Path::new(&before).join("libpokyandi.a"),
+            Path::new(&folder),
+        );
+    }
+}
+
+/// Links a copy of the library before. It is one object; all names in it become its
+/// own but those of its calls, which are changed.
+fn link_before(archive: &Path, folder: &Path) {
+    println!("cargo:rerun-if-changed={}", archive.display());
+    if !archive.is_file() {
+        stop(&format!(
+            "{} is missing; POKYANDI_BEFORE names its folder",
+            archive.display()
+        ));
+    }
+    let mut objcopy = Command::new("objcopy");
+    for [name, renamed] in BEFORE {
+        objcopy.args(["--redefine-sym", &format!("{name}={renamed}")]);
+        objcopy.args(["--keep-global-symbol", renamed]);
+    }
+    run(objcopy.arg(archive).arg(folder.join("libbefore.a")));
+    println!("cargo:rustc-link-lib=static=before");
+    println!("cargo:rustc-cfg=before");
 }
 
 /// The object of a source.
@@ -33,9 +68,10 @@ fn run(command: &mut Command) {
     let tool = command.get_program().to_string_lossy().into_owned();
     match command.status() {
         Ok(status) if status.success() => {}
-        Ok(status) => stop(&format!("{tool} fails on the C baselines: {status}")),
+        Ok(status) => stop(&format!("{tool} fails: {status}")),
         Err(error) => stop(&format!(
-            "{tool} cannot be run: {error}; the C baselines need cc and ar on the PATH"
+            "{tool} cannot be run: {error}; the C baselines need cc and ar on the PATH, \
+             POKYANDI_BEFORE objcopy"
         )),
     }
 }

@@ -1,8 +1,9 @@
 //! Plain C: the elements of one curve in f64 without checks (`c/baseline.c`), and
-//! a line from points with every check (`c/from_points.c`).
+//! with every check a line from points (`c/from_points.c`) and a sheet read and
+//! written again (`c/rewrite.c`).
 
 use crate::side::{Answer, Refused};
-use pokyandi::LINE_NUMBERS;
+use pokyandi::{LINE_NUMBERS, SHEET_BYTES};
 use reference::curve::Curve;
 use reference::samples::surveys::Survey;
 
@@ -20,12 +21,20 @@ extern "C" {
         line: *mut u32,
         line_numbers: usize,
     ) -> u64;
+
+    fn baseline_rewrite(
+        sheet: *const u8,
+        sheet_bytes: usize,
+        bytes: *mut u8,
+        bytes_room: usize,
+    ) -> u64;
 }
 
 /// It keeps the buffers that its calls fill, as a [`crate::side::Side`] does.
 pub struct Baseline {
     elements: [f64; 6],
     line: [u32; LINE_NUMBERS],
+    bytes: [u8; SHEET_BYTES],
 }
 
 impl Baseline {
@@ -33,6 +42,7 @@ impl Baseline {
         Baseline {
             elements: [0.0; 6],
             line: [0; LINE_NUMBERS],
+            bytes: [0; SHEET_BYTES],
         }
     }
 
@@ -47,6 +57,12 @@ impl Baseline {
     pub fn line_from_points(&mut self, survey: &Survey) -> Answer<&[u32]> {
         let count = from_points(survey, &mut self.line)?;
         Ok(&self.line[..count])
+    }
+
+    /// The sheet read and written again.
+    pub fn rewrite(&mut self, sheet: &[u8]) -> Answer<&[u8]> {
+        let count = rewrite(sheet, &mut self.bytes)?;
+        Ok(&self.bytes[..count])
     }
 }
 
@@ -70,6 +86,19 @@ fn from_points(survey: &Survey, line: &mut [u32]) -> Answer<usize> {
             line.len(),
         )
     };
+    answered(answer)
+}
+
+fn rewrite(sheet: &[u8], bytes: &mut [u8]) -> Answer<usize> {
+    // SAFETY: pointers and lengths are those of slices; the bytes are borrowed alone.
+    let answer =
+        unsafe { baseline_rewrite(sheet.as_ptr(), sheet.len(), bytes.as_mut_ptr(), bytes.len()) };
+    answered(answer)
+}
+
+/// What an answer in C says: its upper 32 bits are 0 and the lower ones a count,
+/// or they are a refusal's number and its place.
+fn answered(answer: u64) -> Answer<usize> {
     match (answer >> 32) as u32 {
         0 => Ok(answer as usize),
         number => Err(Refused {
@@ -83,7 +112,14 @@ fn from_points(survey: &Survey, line: &mut [u32]) -> Answer<usize> {
 mod tests {
     use super::*;
     use reference::points;
+    use reference::samples::dice::Dice;
     use reference::samples::point_edges::{edges, SurveyCall};
+    use reference::samples::roads::road;
+    use reference::samples::sheet_edges;
+    use reference::samples::sheet_fields::{flip, sheet_of};
+    use reference::samples::sheets::{any_bytes, any_bytes_of_the_edition, any_entries};
+    use reference::sheet;
+    use std::collections::BTreeSet;
 
     /// At every edge, refused or not, C does what the reference does.
     #[test]
@@ -101,5 +137,57 @@ mod tests {
             assert_eq!(answer, expected.map_err(Refused::from), "{}", edge.name);
             assert_eq!(lines[0], lines[1], "{}", edge.name);
         }
+    }
+
+    /// In buffers of several sizes, C answers as the reference does and leaves the
+    /// same bytes. Gives the numbers of the refusals.
+    fn check_rewrite(sheet: &[u8]) -> BTreeSet<u32> {
+        let length = sheet.len();
+        let rooms = [0, length.saturating_sub(1), length, length + 1, length + 9];
+        let refusals = rooms.map(|room| {
+            let mut bytes = [vec![7; room], vec![7; room]];
+            let answer = rewrite(sheet, &mut bytes[0]);
+            let line = sheet::read(sheet);
+            let expected = line.and_then(|line| sheet::write(&line, &mut bytes[1]));
+            assert_eq!(answer, expected.map_err(Refused::from), "{sheet:02x?}");
+            assert_eq!(bytes[0], bytes[1], "{sheet:02x?}");
+            answer.map_or_else(|refused| refused.number, |_| 0)
+        });
+        refusals.into()
+    }
+
+    /// 0 for an accepted sheet, and all that a rewrite can be refused for.
+    fn every_answer() -> BTreeSet<u32> {
+        (0..=11).chain([16]).collect()
+    }
+
+    #[test]
+    fn edges_of_sheets() {
+        let edges = sheet_edges::edges(&mut Dice::new(1));
+        let answers = edges.iter().flat_map(|edge| check_rewrite(&edge.sample));
+        assert_eq!(answers.collect::<BTreeSet<_>>(), every_answer());
+    }
+
+    /// Sheets of every count as they are, with bits changed, cut and lengthened, and
+    /// sheets of any bits.
+    #[test]
+    fn damaged_sheets() {
+        let mut dice = Dice::new(1);
+        let mut answers = BTreeSet::new();
+        for n in (0..=64).cycle().take(65 * 20) {
+            let mut sheet = sheet_of(&road(&mut dice, n));
+            answers.extend(check_rewrite(&sheet));
+            answers.extend(check_rewrite(&sheet[..dice.index(0, sheet.len() - 1)]));
+            answers.extend(check_rewrite(&[&sheet[..], &[0]].concat()));
+            for _ in 0..4 {
+                let bit = dice.index(0, 8 * sheet.len() - 1);
+                flip(&mut sheet, bit);
+                answers.extend(check_rewrite(&sheet));
+            }
+            for any in [any_bytes, any_bytes_of_the_edition, any_entries] {
+                answers.extend(check_rewrite(&any(&mut dice)));
+            }
+        }
+        assert_eq!(answers, every_answer());
     }
 }

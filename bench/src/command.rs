@@ -98,8 +98,7 @@ pub fn measure(programs: &Programs, options: &Options, inputs: &Inputs) -> Resul
         print_row(
             &format!("command, {size} (***)"),
             &times[0],
-            &times[1],
-            None,
+            &[Some(&times[1])],
         );
         rates.push(format!("{:.0} a second of {size}", 1e9 / times[0].median()));
     }

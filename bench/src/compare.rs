@@ -1,6 +1,8 @@
 //! Before a job is timed, the answers of all sides are compared for each input.
 
 use crate::baseline::Baseline;
+#[cfg(before)]
+use crate::before::Before;
 use crate::inputs::{Inputs, Road};
 use crate::job::{Job, Task};
 use crate::library::Library;
@@ -42,14 +44,38 @@ fn compare_road(
 ) -> Result<(), String> {
     match task {
         Task::Read => same(library.read(sheet), reference.read(sheet)),
-        Task::Write => same(library.write(line), reference.write(line)),
-        Task::Rewrite => same(library.rewrite(sheet), reference.rewrite(sheet)),
+        Task::Write => compare_write(line, library, reference),
+        Task::Rewrite => compare_rewrite(sheet, library, reference),
         Task::Stations => same(library.stations(sheet), reference.stations(sheet)),
         Task::Peg => same(library.peg(sheet, *station), reference.peg(sheet, *station)),
         Task::Check => same(library.check(sheet), reference.check(sheet)),
         Task::Text => same(library.text(sheet), reference.text(sheet)),
         Task::Points | Task::Elements => unreachable!("they have inputs of their own"),
     }
+}
+
+fn compare_write(
+    line: &[u32],
+    library: &mut Library,
+    reference: &mut Reference,
+) -> Result<(), String> {
+    let answer = library.write(line);
+    #[cfg(before)]
+    same_as("the library before", answer, Before::new().write(line))?;
+    same(answer, reference.write(line))
+}
+
+/// Fails when a sheet read and written again has two answers.
+pub fn compare_rewrite(
+    sheet: &[u8],
+    library: &mut Library,
+    reference: &mut Reference,
+) -> Result<(), String> {
+    let answer = library.rewrite(sheet);
+    #[cfg(before)]
+    same_as("the library before", answer, Before::new().rewrite(sheet))?;
+    same(answer, reference.rewrite(sheet))?;
+    same_as("the C baseline", answer, Baseline::new().rewrite(sheet))
 }
 
 fn compare_survey(

@@ -13,15 +13,21 @@ use reference::sheet::read;
 use std::cell::LazyCell;
 
 const SEED: u64 = 5;
-/// How many sheets of 64 curves, and of one.
+/// How many sheets of 64 curves, of 8, of one and of none.
 const FULL_SHEETS: usize = 32;
+const EIGHT_SHEETS: usize = 128;
 const SINGLE_SHEETS: usize = 256;
+const STRAIGHT_SHEETS: usize = 256;
 
 pub struct Inputs {
     /// Those of 64 curves; the first is the mountain road of the samples.
     pub full: Vec<Road>,
+    /// Those of 8 curves.
+    pub eight: Vec<Road>,
     /// Those of one curve.
     pub single: Vec<Road>,
+    /// Those of no curve.
+    pub straight: Vec<Road>,
     /// The curves of the full ones.
     pub curves: Vec<Curve>,
     /// Lines by their points. The reference's table of sines, with which they are
@@ -43,11 +49,15 @@ impl Inputs {
         full.extend(random_sheets(&mut dice, MOST_CURVES, FULL_SHEETS - 1));
         let full = roads_of(full);
         let single = roads_of(random_sheets(&mut dice, 1, SINGLE_SHEETS));
+        let eight = roads_of(random_sheets(&mut dice, 8, EIGHT_SHEETS));
+        let straight = roads_of(random_sheets(&mut dice, 0, STRAIGHT_SHEETS));
         let curves = full.iter().flat_map(|road| line_of(&road.sheet).curves);
         Inputs {
             curves: curves.collect(),
             full,
+            eight,
             single,
+            straight,
             surveys: LazyCell::new(Surveys::make),
         }
     }
@@ -56,10 +66,12 @@ impl Inputs {
     pub fn words(&self) -> String {
         let simple = self.curves.iter().filter(|curve| curve.l == 0).count();
         format!(
-            "{} sheets of 64 curves, {} sheets of 1 curve, {} curves ({simple} without spirals), \
-             {} lines of 66 points, {} lines of 3 points",
+            "sheets, {} of 64 curves, {} of 8, {} of 1 and {} of none; \
+             {} curves ({simple} without spirals); lines, {} of 66 points and {} of 3",
             self.full.len(),
+            self.eight.len(),
             self.single.len(),
+            self.straight.len(),
             self.curves.len(),
             self.surveys.full.len(),
             self.surveys.single.len(),

@@ -23,15 +23,17 @@ pub enum Task {
 impl Task {
     /// Whether it is timed in plain C too.
     pub fn in_c(self) -> bool {
-        matches!(self, Task::Points | Task::Elements)
+        matches!(self, Task::Rewrite | Task::Points | Task::Elements)
     }
 }
 
-/// How many curves the sheets or lines of a job have.
+/// How many curves the sheets or lines of a job have: 64, 8, one or none.
 #[derive(Clone, Copy, PartialEq, Eq)]
 pub enum Size {
     Full,
+    Eight,
     Single,
+    Straight,
 }
 
 #[derive(Clone, Copy)]
@@ -44,7 +46,7 @@ pub struct Job {
     size: Size,
 }
 
-pub const JOBS: [Job; 17] = [
+pub const JOBS: [Job; 23] = [
     full("read-64", "read, 64 curves", Task::Read),
     full("write-64", "written, 64 curves", Task::Write),
     full("rewrite-64", "read and written, 64 curves", Task::Rewrite),
@@ -56,6 +58,9 @@ pub const JOBS: [Job; 17] = [
     full("peg-64", "read, peg calculated, 64 curves", Task::Peg),
     full("check-64", "checked, 64 curves (*)", Task::Check),
     full("text-64", "text, 64 curves", Task::Text),
+    eight("read-8", "read, 8 curves", Task::Read),
+    eight("write-8", "written, 8 curves", Task::Write),
+    eight("rewrite-8", "read and written, 8 curves", Task::Rewrite),
     single("read-1", "read, 1 curve", Task::Read),
     single("write-1", "written, 1 curve", Task::Write),
     single("rewrite-1", "read and written, 1 curve", Task::Rewrite),
@@ -63,23 +68,31 @@ pub const JOBS: [Job; 17] = [
     single("peg-1", "read, peg calculated, 1 curve", Task::Peg),
     single("check-1", "checked, 1 curve (*)", Task::Check),
     single("text-1", "text, 1 curve", Task::Text),
+    straight("read-0", "read, no curve", Task::Read),
+    straight("write-0", "written, no curve", Task::Write),
+    straight("rewrite-0", "read and written, no curve", Task::Rewrite),
     full("points-64", "line from 66 points", Task::Points),
     single("points-1", "line from 3 points", Task::Points),
     full("elements", "elements of one curve", Task::Elements),
 ];
 
 const fn full(name: &'static str, title: &'static str, task: Task) -> Job {
-    let size = Size::Full;
-    Job {
-        name,
-        title,
-        task,
-        size,
-    }
+    job(name, title, task, Size::Full)
+}
+
+const fn eight(name: &'static str, title: &'static str, task: Task) -> Job {
+    job(name, title, task, Size::Eight)
 }
 
 const fn single(name: &'static str, title: &'static str, task: Task) -> Job {
-    let size = Size::Single;
+    job(name, title, task, Size::Single)
+}
+
+const fn straight(name: &'static str, title: &'static str, task: Task) -> Job {
+    job(name, title, task, Size::Straight)
+}
+
+const fn job(name: &'static str, title: &'static str, task: Task, size: Size) -> Job {
     Job {
         name,
         title,
@@ -102,7 +115,9 @@ impl Job {
     pub fn roads(self, inputs: &Inputs) -> &[Road] {
         match self.size {
             Size::Full => &inputs.full,
+            Size::Eight => &inputs.eight,
             Size::Single => &inputs.single,
+            Size::Straight => &inputs.straight,
         }
     }
 
@@ -111,6 +126,7 @@ impl Job {
         match self.size {
             Size::Full => &inputs.surveys.full,
             Size::Single => &inputs.surveys.single,
+            Size::Eight | Size::Straight => unreachable!("no lines by points have this size"),
         }
     }
 
@@ -174,6 +190,11 @@ fn each_road<S: Side>(task: Task, side: &mut S, roads: &[Road]) {
 pub fn work_baseline(job: Job, baseline: &mut Baseline, inputs: &Inputs, times: usize) {
     for _ in 0..times {
         match job.task {
+            Task::Rewrite => {
+                for Road { sheet, .. } in job.roads(inputs) {
+                    keep(baseline.rewrite(black_box(&sheet[..])));
+                }
+            }
             Task::Points => {
                 for survey in job.surveys(inputs) {
                     keep(baseline.line_from_points(black_box(survey)));
@@ -190,6 +211,6 @@ pub fn work_baseline(job: Job, baseline: &mut Baseline, inputs: &Inputs, times: 
 }
 
 /// Takes an answer, so that the compiler must work it out.
-fn keep<T>(answer: T) {
+pub fn keep<T>(answer: T) {
     black_box(answer);
 }

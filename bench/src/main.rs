@@ -1,8 +1,11 @@
-//! Times the proved library against the reference, and against plain C for a line
-//! from points and the elements of one curve.
+//! Times the proved library against the reference, and against plain C for a sheet
+//! rewritten, a line from points and the elements of one curve.
 
+mod archive;
 mod arguments;
 mod baseline;
+#[cfg(before)]
+mod before;
 mod command;
 mod compare;
 mod inputs;
@@ -15,13 +18,14 @@ mod side;
 mod surveys;
 mod table;
 
+use archive::Archive;
 use arguments::{Options, Request, USAGE};
 use baseline::Baseline;
 use compare::{compare, largest_baseline_difference};
 use inputs::Inputs;
 use job::{work, work_baseline, Job, JOBS, PEG_BESIDE_STATIONS};
 use library::Library;
-use measure::{alternate, time, Work};
+use measure::{alternate, sure, time, Work};
 use reference_side::Reference;
 use std::process::ExitCode;
 use std::time::Duration;
@@ -77,9 +81,11 @@ fn measure_all(options: &Options) -> Result<(), String> {
     let programs = options.station_programs()?;
     let command = options.command_programs()?;
     let inputs = Inputs::make();
+    let archive = Archive::make(options);
     for job in JOBS {
         compare(job, &inputs)?;
     }
+    archive::compare(&archive)?;
     print_preface(options, &inputs);
     table::print_heading();
     for job in JOBS {
@@ -94,13 +100,14 @@ fn measure_all(options: &Options) -> Result<(), String> {
         None => None,
     };
     print_notes(&inputs, process, rates);
-    print_peg_ratios(options, &inputs)
+    print_peg_ratios(options, &inputs)?;
+    archive::measure(&archive, options)
 }
 
 fn print_preface(options: &Options, inputs: &Inputs) {
     let rounds = options.rounds();
-    println!("Medians of {rounds} rounds, library, reference and C in turn.");
-    println!("Ratio: library / reference, and library / C, below 1 where the library is faster.");
+    println!("Medians of {rounds} rounds, the library and the others in turn.");
+    println!("Ratio: the library's time / the other's, below 1 where the library is faster.");
     println!("Inputs, in turn: {}.", inputs.words());
     println!("Buffers are used again and not cleared first.");
     println!("All answers are compared before they are timed.\n");
@@ -117,8 +124,11 @@ fn print_notes(inputs: &Inputs, process: Option<f64>, rates: Option<String>) {
         println!("(***) Times of one sheet, read from its file, in metres. {rates}");
     }
     let difference = largest_baseline_difference(inputs);
-    println!("C: plain C with libm. Lines from points with every check, and the same answers;");
+    println!("C: plain C. Sheets and lines from points with every check, and the same answers;");
     println!("elements in f64 without checks, at most {difference:.1} µm from the library.");
+    if cfg!(before) {
+        println!("Before: the library that POKYANDI_BEFORE named when the bench was built.");
+    }
 }
 
 /// The time of a peg over that of the stations of the same sheets.
@@ -145,11 +155,18 @@ fn measure_job(job: Job, options: &Options, inputs: &Inputs) -> Result<(), Strin
     let mut works = works(job, inputs, times);
     let calls = times * job.input_count(inputs);
     let results = alternate(options.rounds(), calls, &mut works)?;
-    table::print_row(job.title, &results[0], &results[1], results.get(2));
+    let mut others = results[2..].iter();
+    let c = if job.task.in_c() { others.next() } else { None };
+    table::print_row(
+        job.title,
+        &results[0],
+        &[Some(&results[1]), c, others.next()],
+    );
     Ok(())
 }
 
-/// The work of library and reference, and of C where it has the job.
+/// The work of library and reference, of C where it has the job, and of the library
+/// before where there is one and the job writes.
 fn works(job: Job, inputs: &Inputs, times: usize) -> Vec<Work<'_>> {
     let (mut library, mut reference) = (Library::new(), Reference::new());
     let mut works = vec![
@@ -162,15 +179,9 @@ fn works(job: Job, inputs: &Inputs, times: usize) -> Vec<Work<'_>> {
             work_baseline(job, &mut baseline, inputs, times)
         }));
     }
+    #[cfg(before)]
+    works.extend(before::work(job, inputs, times));
     works
-}
-
-/// Work that cannot fail.
-fn sure<'a>(mut work: impl FnMut() + 'a) -> Work<'a> {
-    Box::new(move || {
-        work();
-        Ok(())
-    })
 }
 
 /// How many times a round goes through the inputs, the same for both sides.

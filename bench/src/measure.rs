@@ -5,6 +5,14 @@ use std::time::{Duration, Instant};
 /// Something that can be timed; it may fail.
 pub type Work<'a> = Box<dyn FnMut() -> Result<(), String> + 'a>;
 
+/// Work that cannot fail.
+pub fn sure<'a>(mut work: impl FnMut() + 'a) -> Work<'a> {
+    Box::new(move || {
+        work();
+        Ok(())
+    })
+}
+
 /// The time of each round of one work, ns per call.
 pub struct Times(Vec<f64>);
 

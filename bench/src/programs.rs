@@ -45,7 +45,7 @@ pub fn measure(programs: &Programs, rounds: usize) -> Result<f64, String> {
     ];
     alternate(1, 1, &mut works)?;
     let times = alternate(rounds, 1, &mut works)?;
-    print_row("program, 64 curves (**)", &times[0], &times[1], None);
+    print_row("program, 64 curves (**)", &times[0], &[Some(&times[1])]);
     Ok(times[2].median())
 }
 
