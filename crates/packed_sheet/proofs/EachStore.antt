@@ -1,6 +1,6 @@
 -- Each byte of a sheet is stored once, in ascending order: before and after each store the bytes so far are the sheet's, and the rest are as
 -- lent (document 02, N3). Assumes nothing.
-use mathlib.Core.Path.{_≡_, sym, _∙_}
+use mathlib.Core.Path.{_≡_, refl, sym, _∙_, ap}
 use mathlib.Core.List.{List, _++_}
 use Prim.Native.Nat.{ℕ, zero, suc, _≤_, _<_}
 use native.Mathlib.Decide.{decLe}
@@ -9,7 +9,7 @@ use lib.ListN.{length, drop}
 use Rattle.line.specs.declared.Line.{Line}
 use Rattle.packed_sheet.specs.Layout.{Edition}
 use Rattle.packed_sheet.specs.Writing.{sheetOf}
-use Rattle.packed_sheet.specs.EachStore.{soFar, Store, Stores, none, more, StoreOf}
+use Rattle.packed_sheet.specs.EachStore.{soFar, Store, Stores, none, more, howMany, StoreOf}
 use Rattle.packed_sheet.proofs.SoFar.{at-first, at-last, still, stored}
 
 module _ (E : Edition) (line : Line) (lent : List ℕ) where
@@ -53,6 +53,12 @@ module _ (E : Edition) (line : Line) (lent : List ℕ) where
       go earlier (no above) =
           let same : k ≡ m = omega arith in
           rw same (last-store s one)
+
+  -- There is one store for each byte.
+  pub as-many : {n : ℕ} {last : List ℕ} (s : Stores E line 0 lent n last) → howMany s ≡ n
+  unfolding howMany
+  as-many none = refl
+  as-many (more s one) = ap suc (as-many s)
 
   -- After the last store the bytes are the sheet, and the others as lent.
   pub whole-sheet : {n : ℕ} {last : List ℕ} → Stores E line 0 lent n last → length (sheetOf E line) ≡ n → last ≡ sheetOf E line ++ drop n lent

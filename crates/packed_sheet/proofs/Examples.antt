@@ -16,6 +16,7 @@ use Rattle.bits.specs.Bits.{valueOf, bytesOf, bitsAt, valuesAt, packed}
 use Rattle.packed_sheet.specs.Layout.{Edition, firstEdition, bitCount, byteCount}
 use Rattle.packed_sheet.specs.Reading.{headOf, distanceOf, curveOf, lineOf, sizeChecks, frameChecks, readChecks, readLine}
 use Rattle.packed_sheet.specs.Writing.{entriesAfter, numberTo, sheetNumber, sheetOf, sheetIn}
+use Rattle.packed_sheet.specs.EachStore.{soFar}
 
 -- Case 9: "V 70, e 8, start 0, no curve, distance 500,000". The fill is the rest of the last byte.
 abbrev nineBytes : List ℕ
@@ -110,10 +111,14 @@ pub record Examples : Type 0 where
   pub as-lent : sheetIn firstEdition (line9 (500000 ∷ []) []) (replicate 9 7) .buffer ≡ replicate 9 7
   pub exact : sheetIn firstEdition (line9 (500000 ∷ []) []) (replicate 10 7) .reply ≡ filled 10
   pub remainder : sheetIn firstEdition (line9 (500000 ∷ replicate 64 9) (replicate 64 left)) (replicate 12 7) .buffer ≡ sheet9 ++ (7 ∷ 7 ∷ [])
+  -- store by store
+  pub before-first : soFar firstEdition (line9 (500000 ∷ []) []) (replicate 12 7) 0 ≡ replicate 12 7
+  pub after-three : soFar firstEdition (line9 (500000 ∷ []) []) (replicate 12 7) 3 ≡ 0x10 ∷ 0x11 ∷ 0xA0 ∷ replicate 9 7
+  pub after-all : soFar firstEdition (line9 (500000 ∷ []) []) (replicate 12 7) 10 ≡ sheet9 ++ (7 ∷ 7 ∷ [])
   pub distance-before-room : sheetIn firstEdition (line9 (0 ∷ []) []) [] .reply ≡ unfilled 8 0
 
 pub examples : Examples
-unfolding startCheck headChecks distanceCheck curveChecks bodyChecks lineChecks entries valueOf bytesOf bitsAt valuesAt packed headOf distanceOf curveOf lineOf sizeChecks frameChecks readChecks readLine entriesAfter numberTo sheetNumber sheetOf withRoom fill sheetIn
+unfolding startCheck headChecks distanceCheck curveChecks bodyChecks lineChecks entries valueOf bytesOf bitsAt valuesAt packed headOf distanceOf curveOf lineOf sizeChecks frameChecks readChecks readLine entriesAfter numberTo sheetNumber sheetOf withRoom fill sheetIn soFar
 examples =
     record {
       case-9-read = refl;
@@ -146,5 +151,8 @@ examples =
       as-lent = refl;
       exact = refl;
       remainder = refl;
+      before-first = refl;
+      after-three = refl;
+      after-all = refl;
       distance-before-room = refl;
     }

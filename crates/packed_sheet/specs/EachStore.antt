@@ -23,6 +23,11 @@ pub data Stores (E : Edition) (line : Line) : ℕ → List ℕ → ℕ → List 
   none : {k : ℕ} {bytes : List ℕ} → Stores E line k bytes k bytes
   more : {j k : ℕ} {first before after : List ℕ} → Stores E line j first k before → Store E line k before after → Stores E line j first (suc k) after
 
+-- How many stores they are.
+unfoldable pub howMany : {E : Edition} {line : Line} {j k : ℕ} {first last : List ℕ} → Stores E line j first k last → ℕ
+howMany none = 0
+howMany (more earlier one) = suc (howMany earlier)
+
 -- The store of byte k among stores that lead from the bytes lent to the last: "after each store the bytes so far are the sheet's and the rest
 -- are as lent", and before it likewise.
 pub record StoreOf (E : Edition) (line : Line) (lent : List ℕ) (n : ℕ) (last : List ℕ) (k : ℕ) : Type 0 where
