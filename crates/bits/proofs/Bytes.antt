@@ -2,13 +2,13 @@
 use mathlib.Core.Path.{_≡_, refl, sym, _∙_, ap}
 use mathlib.Core.List.{List, [], _∷_, _++_}
 use Prim.Native.Nat.{ℕ, zero, suc, _+_, _-_, _*_, _/_, _%_, _^_, _≤_, _<_}
-use native.Mathlib.Nat.{zero-mul, zero-add, add-zero, add-mul, mul-assoc, add-assoc, mul-add-div-right, mul-add-mod-self-right, mul-one, mod-lt, mod-eq-of-lt, mod-one, div-one}
+use native.Mathlib.Nat.{zero-mul, zero-add, add-zero, add-mul, mul-assoc, add-assoc, mul-add-div-right, mul-add-mod-self-right, mul-one, mod-lt, mod-eq-of-lt, mod-one}
 use native.Mathlib.Numerals.{add-one}
 use native.Mathlib.Omega.{arith}
 use lib.Arith.{digits-lt}
-use lib.ListN.{length, take, drop, getD, set, length-append, length-drop, take-append-drop}
+use lib.ListN.{length, take, drop, getD, length-append, length-drop, take-append-drop}
 use lib.Pow.{pow-add, pow-pos, high, mod-pow-add}
-use lib.Seq.{length-take-le, take-suc, getD-drop, take-suc-set, take-at, drop-at}
+use lib.Seq.{take-suc, getD-drop}
 use Rattle.bits.specs.Bits.{Bytes, valueOf, bytesOf}
 
 -- ---- the number that bytes spell
@@ -61,12 +61,6 @@ value-take s k b h =
     let l : valueOf (drop k s) < 2 ^ (8 * (length s - k)) =
     rw length-drop at (value-lt (drop k s) (λ i. rw getD-drop (b (k + i)))) in
     ap (λ (n : ℕ). n / 2 ^ (8 * (length s - k))) e ∙ high _ _ l
-
-pub bytes-take : (n : ℕ) (s : List ℕ) → Bytes s → Bytes (take n s)
-bytes-take zero s h i = omega arith
-bytes-take (suc n) [] h i = h i
-bytes-take (suc n) (x ∷ s) h zero = h 0
-bytes-take (suc n) (x ∷ s) h (suc i) = bytes-take n s (λ j. h (suc j)) i
 
 -- ---- the bytes of a number
 

@@ -1,15 +1,14 @@
 -- The bytes so far: how they begin, go on by one store and by many, and end. Assumes nothing.
 use mathlib.Core.Path.{_≡_, refl, sym, _∙_, ap}
-use mathlib.Core.List.{List, _∷_, [], _++_}
+use mathlib.Core.List.{List, _++_}
 use Prim.Native.Nat.{ℕ, suc, _+_, _-_, _≤_, _<_}
 use native.Mathlib.Omega.{arith}
 use lib.ListN.{length, take, drop, getD, set}
 use lib.Seq.{length-take-le, take-all, take-suc, drop-cons, append-snoc, set-at, drop-append-add, drop-drop}
 use Rattle.line.specs.declared.Line.{Line}
-use Rattle.packed_sheet.specs.Layout.{Edition, byteCount}
+use Rattle.packed_sheet.specs.Layout.{Edition}
 use Rattle.packed_sheet.specs.Writing.{sheetOf}
 use Rattle.packed_sheet.specs.EachStore.{soFar, Store, Stores, none, more}
-use Rattle.packed_sheet.proofs.WaysOut.{sheet-length}
 
 module _ (E : Edition) (line : Line) where
   -- Before the first store the bytes are those lent.

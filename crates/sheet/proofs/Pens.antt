@@ -6,7 +6,7 @@ use native.Mathlib.Nat.{add-zero, mod-lt, mod-eq-of-lt, mul-mod-left}
 use native.Mathlib.Omega.{arith}
 use lib.Arith.{digits-lt, digits-div, digits-mod}
 use lib.ListN.{length, getD}
-use lib.Pow.{pow-add, pow-pos, pow-mono, shl-exact, shl-shr, mod-pow-add, mod-mod-pow}
+use lib.Pow.{pow-add, pow-pos, shl-exact, shl-shr, mod-pow-add, mod-mod-pow}
 use Rattle.line.specs.declared.Line.{Line}
 use Rattle.bits.specs.Bits.{Bytes, bitsAt}
 use Rattle.packed_sheet.specs.Layout.{Edition}
@@ -44,16 +44,9 @@ module _ (pending width value : ℕ) (narrow : width < 64) (fits : value < 2 ^ w
       ∙ (λ j. digits-div high fits j % 2 ^ held * 2 ^ width + digits-mod high fits j)
       ∙ ap (λ (n : ℕ). n * 2 ^ width + value) same)
 
--- A field behind few bits: nothing is lost.
-module _ (before width value : ℕ) (few : before < 2 ^ 32) (narrow : width ≤ 32) (fits : value < 2 ^ width) where
-  pub beside-exact : before * 2 ^ width % 2 ^ 64 ≡ before * 2 ^ width
-  beside-exact = shl-exact 32 width 64 few (omega arith)
-
-  pub beside-lt : before * 2 ^ width % 2 ^ 64 + value < 2 ^ 64
-  beside-lt =
-      let below : before * 2 ^ width + value < 2 ^ (32 + width) = rw pow-add (digits-lt few fits) in
-      let most : 2 ^ (32 + width) ≤ 2 ^ 64 = pow-mono {j = 64} (omega arith) in
-      rw beside-exact (omega arith)
+-- Behind few bits nothing is lost.
+pub joined-whole : (before width value : ℕ) → before < 2 ^ 32 → width ≤ 32 → before * 2 ^ width % 2 ^ 64 + value ≡ before * 2 ^ width + value
+joined-whole before width value few narrow = ap (λ (n : ℕ). n + value) (shl-exact 32 width 64 few (omega arith))
 
 -- ---- a byte of the bits that wait
 

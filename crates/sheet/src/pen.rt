@@ -41,12 +41,13 @@ pub(crate) fn store_bytes(line: Line, bytes: &mut [u8], at: usize, word: u64, he
     }
 }
 
-// The bits of `pending` with `width` bits behind them, as far as 64 hold.
-pub(crate) fn join(pending: u64, width: usize, value: u64) -> u64
+// The bits of `before` with a field of `width` bits behind them, as far as 64 bits hold.
+pub(crate) fn join(before: u64, width: usize, value: u64) -> u64
     requires { ⌜ (width < 64) × (value < 2 ^ width) ⌝ }
-    ensures { λ r. ⌜ ((held : ℕ) → held + width ≤ 64 → r % 2 ^ (held + width) ≡ pending % 2 ^ held * 2 ^ width + value) ⌝ }
+    ensures last { λ r. ⌜ ((held : ℕ) → held + width ≤ 64 → r % 2 ^ (held + width) ≡ before % 2 ^ held * 2 ^ width + value) ⌝ }
+    ensures whole { λ r. ⌜ (before < 2 ^ 32 → width ≤ 32 → r ≡ before * 2 ^ width + value) ⌝ }
 {
-    (pending << width) + value
+    (before << width) + value
 }
 
 // The sheet's next `width` bits; a whole word is stored.

@@ -1,7 +1,7 @@
 // The writer: the sheet of a line at the front of the caller's bytes.
 ghost use mathlib.Core.Path.{_≡_};
 ghost use mathlib.Core.List.{[], _∷_};
-ghost use Prim.Native.Nat.{_^_, _<_, _≤_, _*_, _+_};
+ghost use Prim.Native.Nat.{_≤_, _*_, _+_};
 ghost use lib.ListN.{length, take, drop};
 ghost use Rattle.refusals.specs.Outcomes.{passed};
 ghost use Rattle.refusals.specs.Filling.{fillReplyOf};
@@ -37,23 +37,15 @@ use refusals::FillAnswer;
 use refusals::Refusal;
 use refusals::Verdict;
 
-// A field of `width` bits behind the bits of `before`.
-fn beside(before: u64, width: usize, value: u32) -> u64
-    requires { ⌜ (before < 2 ^ 32) × (width ≤ 32) × (value < 2 ^ width) ⌝ }
-    ensures { λ r. ⌜ r ≡ before * 2 ^ width + value ⌝ }
-{
-    (before << width) + (value as u64)
-}
-
 // The head's fields as one.
 fn head_bits(count: u32, speed: u32, crossfall: u32, start: u32) -> u64
     requires { ⌜ Fit (headWidths firstEdition) (1 ∷ count ∷ speed ∷ crossfall ∷ start ∷ []) ⌝ }
     ensures { λ r. ⌜ r ≡ packed 0 (headWidths firstEdition) (1 ∷ count ∷ speed ∷ crossfall ∷ start ∷ []) ⌝ }
 {
-    let n = beside(1, COUNT, count);
-    let v = beside(n, SPEED, speed);
-    let e = beside(v, CROSSFALL, crossfall);
-    beside(e, START, start)
+    let n = join(1, COUNT, count as u64);
+    let v = join(n, SPEED, speed as u64);
+    let e = join(v, CROSSFALL, crossfall as u64);
+    join(e, START, start as u64)
 }
 
 // A distance with side and deflection of the curve after it as one field.
@@ -61,8 +53,8 @@ fn turn_bits(distance: u32, curve: Curve) -> u64
     requires { ⌜ Fit entryWidths (distance ∷ curveValues curve) ⌝ }
     ensures { λ r. ⌜ r ≡ packed 0 (take 3 entryWidths) (take 3 (distance ∷ curveValues curve)) ⌝ }
 {
-    let side = beside(distance as u64, SIDE, side_bit(curve.left));
-    beside(side, DEFLECTION, curve.deflection)
+    let side = join(distance as u64, SIDE, side_bit(curve.left) as u64);
+    join(side, DEFLECTION, curve.deflection as u64)
 }
 
 // The curve's radius and spiral as one field.
@@ -70,7 +62,7 @@ fn size_bits(curve: Curve) -> u64
     requires { ⌜ Fit curveWidths (curveValues curve) ⌝ }
     ensures { λ r. ⌜ r ≡ packed 0 (drop 2 curveWidths) (drop 2 (curveValues curve)) ⌝ }
 {
-    beside(curve.radius as u64, SPIRAL, curve.spiral)
+    join(curve.radius as u64, SPIRAL, curve.spiral as u64)
 }
 
 // The last distance, behind head and entries, and the zero bits that fill the last byte.

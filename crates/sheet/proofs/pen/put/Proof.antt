@@ -1,9 +1,8 @@
 -- `put` meets its contract: the field waits, or fills a word that is stored. Assumes nothing.
 use mathlib.Core.Path.{_≡_, _∙_, ap}
-use Prim.Native.Nat.{ℕ, _+_, _-_, _*_, _≤_}
+use Prim.Native.Nat.{ℕ, _+_, _-_, _*_}
 use native.Mathlib.Omega.{arith}
 use borrow.Author.Needs.{needs}
-use lib.ListN.{length}
 use Rattle.bits.specs.Bits.{bitsAt}
 use Rattle.packed_sheet.specs.Layout.{firstEdition}
 use Rattle.packed_sheet.specs.Writing.{sheetOf}
@@ -27,7 +26,7 @@ returns c =
     let start = c .before .before .before .before in
     let a = start .args in
     let p = a .pen in
-    let next = c .join .ensures (p .held) (omega arith) in
+    let next = c .join .ensures .0 (p .held) (omega arith) in
     record {
       moved = omega arith;
       waits = record {
@@ -60,7 +59,7 @@ store-bytes-requires c κs =
     let left : ℕ = p .held + a .width - 64 in
     let full : p .held + (a .width - left) ≡ 64 = omega arith in
     let first = first-bits s (position p) (a .width) (a .value) (start .pre .1 .1) (start .pre .1 .2) left (omega arith) in
-    let word = joined-next s (position p) (a .width - left) _ (omega arith) first (p .at) (p .pending) (p .held) (c .before .join2 .result) (omega arith) (start .pre .0 .1 .next) (c .before .join2 .ensures (p .held) (omega arith)) in
+    let word = joined-next s (position p) (a .width - left) _ (omega arith) first (p .at) (p .pending) (p .held) (c .before .join2 .result) (omega arith) (start .pre .0 .1 .next) (c .before .join2 .ensures .0 (p .held) (omega arith)) in
     (start .pre .0 .0, (omega arith, omega arith, rw full at word))
 
 add-t12 : tie.Need-add-t12

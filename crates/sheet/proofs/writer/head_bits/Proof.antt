@@ -1,26 +1,30 @@
--- `head_bits` meets its contract. Assumes nothing.
+-- `head_bits` meets its contract: each field behind those before it. Assumes nothing.
+use native.Mathlib.Omega.{arith}
 use borrow.Author.Needs.{needs}
 use Rattle.bits.specs.Bits.{packed}
 use Rattle.sheet.proofs.writer.head_bits.Statement.{statement}
 use Rattle.sheet.proofs.writer.head_bits.Tie as tie
 
-beside-requires : tie.Need-beside-requires
-beside-requires c κs = search needs
+join-requires : tie.Need-join-requires
+join-requires c κs = search needs
 
-beside-requires-2 : tie.Need-beside-requires-2
-beside-requires-2 c κs = search needs
+join-requires-2 : tie.Need-join-requires-2
+join-requires-2 c κs = search needs
 
-beside-requires-3 : tie.Need-beside-requires-3
-beside-requires-3 c κs = search needs
+join-requires-3 : tie.Need-join-requires-3
+join-requires-3 c κs = search needs
 
-beside-requires-4 : tie.Need-beside-requires-4
-beside-requires-4 c κs = search needs
+join-requires-4 : tie.Need-join-requires-4
+join-requires-4 c κs = search needs
 
 returns : tie.Need-returns
 unfolding packed
-returns c = search needs
+returns c =
+    let n = c .before .before .before .join .ensures .1 (omega arith) (omega arith) in
+    let v = c .before .before .join2 .ensures .1 (omega (arith, n)) (omega arith) in
+    let e = c .before .join3 .ensures .1 (omega (arith, v)) (omega arith) in
+    omega (arith, n, v, e, c .join4 .ensures .1 (omega (arith, e)) (omega arith))
 
 pub head-bits-spec : {M : Type 1} → statement M
 head-bits-spec =
-    tie.close
-    (tie.spec beside-requires beside-requires-2 beside-requires-3 beside-requires-4 returns)
+    tie.close (tie.spec join-requires join-requires-2 join-requires-3 join-requires-4 returns)

@@ -3,7 +3,6 @@ use mathlib.Core.Path.{_≡_, sym, _∙_, ap}
 use Prim.Native.Nat.{ℕ, _+_, _-_, _*_, _/_, _≤_, _<_}
 use native.Mathlib.Omega.{arith}
 use borrow.Author.Needs.{needs}
-use lib.ListN.{length}
 use lib.Pow.{pow-pos}
 use Rattle.line.specs.Ranges.{LineInRange}
 use Rattle.line.proofs.InRange.{line-in-range}
@@ -62,7 +61,7 @@ store-bytes-requires c κs =
     let zero = fill-bits firstEdition first-holds line (in-range start) ∙ ap (bitsAt s (bitCount firstEdition (line .count))) (sym width) in
     let few : q .held < 64 = last .ensures .waits .few in
     let most : q .held + fill ≤ 64 = omega (arith, width, from, few) in
-    let word = joined-next s (bitCount firstEdition (line .count)) fill 0 (omega (arith, width, sheet-length firstEdition line)) zero (q .at) (q .pending) (q .held) (c .before .before .join .result) from (last .ensures .waits .next) (c .before .before .join .ensures (q .held) most) in
+    let word = joined-next s (bitCount firstEdition (line .count)) fill 0 (omega (arith, width, sheet-length firstEdition line)) zero (q .at) (q .pending) (q .held) (c .before .before .join .result) from (last .ensures .waits .next) (c .before .before .join .ensures .0 (q .held) most) in
     (begun-again firstEdition line (start .pre .1 .0) (last .ensures) (last .kept .1 .0), (most, omega (arith, width, from, sheet-length firstEdition line), word))
 
 same-length : tie.Need-same-length
