@@ -1,16 +1,16 @@
 -- Each byte of a sheet is stored once, in ascending order: before and after each store the bytes so far are the sheet's, and the rest are as
 -- lent (document 02, N3). Assumes nothing.
-use mathlib.Core.Path.{_≡_, refl, sym, _∙_, ap}
+use mathlib.Core.Path.{_≡_, sym, _∙_, ap}
 use mathlib.Core.List.{List, _++_}
 use Prim.Native.Nat.{ℕ, suc, _≤_, _<_}
 use native.Mathlib.Decide.{decLe}
 use native.Mathlib.Omega.{arith}
-use lib.ListN.{length, drop}
+use lib.ListN.{length, drop, getD, set}
 use Rattle.line.specs.declared.Line.{Line}
 use Rattle.packed_sheet.specs.Layout.{Edition}
 use Rattle.packed_sheet.specs.Writing.{sheetOf}
-use Rattle.packed_sheet.specs.EachStore.{soFar, Store, Stores, none, more, howMany, StoreOf}
-use Rattle.packed_sheet.proofs.SoFar.{at-first, at-last, still, stored}
+use Rattle.packed_sheet.specs.EachStore.{soFar, Store, Stores, none, more, StoreOf}
+use Rattle.packed_sheet.proofs.SoFar.{at-first, at-last, still, one-byte, stores-then, stored}
 
 module _ (E : Edition) (line : Line) (lent : List ℕ) where
   -- The bytes after the first k stores.
@@ -54,11 +54,11 @@ module _ (E : Edition) (line : Line) (lent : List ℕ) where
           let same : k ≡ m = omega arith in
           rw same (last-store s one)
 
-  -- There is one store for each byte.
-  pub as-many : {n : ℕ} {last : List ℕ} (s : Stores E line 0 lent n last) → howMany s ≡ n
-  unfolding howMany
-  as-many none = refl
-  as-many (more s one) = ap suc (as-many s)
+  -- What a store of them does: it changes byte k alone, from the one lent to the sheet's; and with those before and behind it they are all.
+  pub store-of-byte : {n k : ℕ} {last : List ℕ} (s : StoreOf E line lent n last k)
+      → (s .after ≡ set (soFar E line lent k) k (getD (sheetOf E line) k 0)) × (s .after ≡ soFar E line lent (suc k)) × Stores E line 0 lent n last
+  store-of-byte {k = k} s =
+      (one-byte E line (s .store) ∙ ap (λ (b : List ℕ). set b k (getD (sheetOf E line) k 0)) (s .so-far), s .one-more, stores-then E line (more (s .earlier) (s .store)) (s .later))
 
   -- After the last store the bytes are the sheet, and the others as lent.
   pub whole-sheet : {n : ℕ} {last : List ℕ} → Stores E line 0 lent n last → length (sheetOf E line) ≡ n → last ≡ sheetOf E line ++ drop n lent

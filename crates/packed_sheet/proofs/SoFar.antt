@@ -59,6 +59,7 @@ module _ (E : Edition) (line : Line) where
   store-made bytes {byte} k h room begun e =
       record {
         within = h;
+        room = omega arith;
         before-it = begun;
         after-it = (λ j. set (begun j) k (e j)) ∙ one-more bytes k h (omega arith);
       }
@@ -67,6 +68,11 @@ module _ (E : Edition) (line : Line) where
   pub store-kept : {k : ℕ} {before after : List ℕ} → Store E line k before after → after ≡ soFar E line after (suc k)
   store-kept {k} {before} one =
       one .after-it ∙ sym (still before (suc k) (suc k) (one .after-it) (omega arith) (omega (arith, one .within)))
+
+  -- It is the store of one byte, the sheet's.
+  pub one-byte : {k : ℕ} {before after : List ℕ} → Store E line k before after → after ≡ set before k (getD (sheetOf E line) k 0)
+  one-byte {k} {before} one =
+      one .after-it ∙ sym (one-more before k (one .within) (one .room)) ∙ ap (λ (b : List ℕ). set b k (getD (sheetOf E line) k 0)) (sym (one .before-it))
 
   -- Stores after one another are stores.
   pub stores-then : {j k m : ℕ} {a b c : List ℕ} → Stores E line j a k b → Stores E line k b m c → Stores E line j a m c

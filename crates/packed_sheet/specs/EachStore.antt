@@ -12,23 +12,19 @@ use Rattle.packed_sheet.specs.Writing.{sheetOf}
 unfoldable pub soFar : Edition → Line → List ℕ → ℕ → List ℕ
 soFar E line lent k = take k (sheetOf E line) ++ drop k lent
 
--- A store of byte k of the sheet: before it the first k bytes are the sheet's, after it one more, and the rest are as before.
+-- A store of byte k of the sheet: before it the first k bytes are the sheet's, after it one more, and the rest are as before it.
 pub record Store (E : Edition) (line : Line) (k : ℕ) (before after : List ℕ) : Type 0 where
   pub within : k < length (sheetOf E line)
+  pub room : k < length before
   pub before-it : before ≡ soFar E line before k
   pub after-it : after ≡ soFar E line before (suc k)
 
--- Stores one after the other: of each byte of the sheet from the first index up to the second, once, "in ascending order".
+-- Such stores one after the other lead from the first bytes to the last: of each byte from one index up to the other, once, "in ascending order".
 pub data Stores (E : Edition) (line : Line) : ℕ → List ℕ → ℕ → List ℕ → Type 0 where
   none : {k : ℕ} {bytes : List ℕ} → Stores E line k bytes k bytes
   more : {j k : ℕ} {first before after : List ℕ} → Stores E line j first k before → Store E line k before after → Stores E line j first (suc k) after
 
--- How many stores they are.
-unfoldable pub howMany : {E : Edition} {line : Line} {j k : ℕ} {first last : List ℕ} → Stores E line j first k last → ℕ
-howMany none = 0
-howMany (more earlier one) = suc (howMany earlier)
-
--- The store of byte k among stores that lead from the bytes lent to the last: "after each store the bytes so far are the sheet's and the rest
+-- The store of byte k among those that lead from the bytes lent to the last: "after each store the bytes so far are the sheet's and the rest
 -- are as lent", and before it likewise.
 pub record StoreOf (E : Edition) (line : Line) (lent : List ℕ) (n : ℕ) (last : List ℕ) (k : ℕ) : Type 0 where
   pub before : List ℕ

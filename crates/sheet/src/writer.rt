@@ -1,7 +1,7 @@
 // The writer: the sheet of a line at the front of the caller's bytes.
 ghost use mathlib.Core.Path.{_≡_};
 ghost use mathlib.Core.List.{[], _∷_};
-ghost use Prim.Native.Nat.{_≤_, _*_, _+_};
+ghost use Prim.Native.Nat.{ℕ, _<_, _≤_};
 ghost use lib.ListN.{length, take, drop};
 ghost use Rattle.refusals.specs.Outcomes.{passed};
 ghost use Rattle.refusals.specs.Filling.{fillReplyOf};
@@ -10,7 +10,7 @@ ghost use Rattle.line.specs.Checks.{distanceAt, lineChecks};
 ghost use Rattle.bits.specs.Bits.{packed, Fit};
 ghost use Rattle.packed_sheet.specs.Layout.{firstEdition, headWidths, curveWidths, entryWidths, entryAt, byteCount};
 ghost use Rattle.packed_sheet.specs.Writing.{curveValues, sheetIn};
-ghost use Rattle.packed_sheet.specs.EachStore.{Stores};
+ghost use Rattle.packed_sheet.specs.EachStore.{Stores, StoreOf};
 ghost use Rattle.sheet.specs.Pens.{position, Begun, Waits};
 use crate::layout::COUNT;
 use crate::layout::CROSSFALL;
@@ -82,7 +82,12 @@ fn put_end(line: Line, bytes: &mut [u8], pen: Pen, distance: u32)
 fn write_sheet(line: Line, bytes: &mut [u8])
     requires { ⌜ outcome (lineChecks line) ≡ passed ⌝ }
     requires { ⌜ byteCount firstEdition (line .count) ≤ length (now bytes) ⌝ }
-    ensures { λ _. ⌜ Stores firstEdition line 0 (now (bytes .entry)) (byteCount firstEdition (line .count)) (now (bytes .exit)) ⌝ }
+    ensures stores { λ _. ⌜ Stores firstEdition line 0 (now (bytes .entry)) (byteCount firstEdition (line .count)) (now (bytes .exit)) ⌝ }
+    ensures each { λ _.
+        ⌜
+        ((k : ℕ) → k < byteCount firstEdition (line .count)
+        → StoreOf firstEdition line (now (bytes .entry)) (byteCount firstEdition (line .count)) (now (bytes .exit)) k)
+        ⌝ }
 {
     let n = line.count;
     let mut pen = Pen {

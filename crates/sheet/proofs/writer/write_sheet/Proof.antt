@@ -14,6 +14,7 @@ use Rattle.packed_sheet.proofs.WaysOut.{sheet-length}
 use Rattle.packed_sheet.proofs.Fitting.{first-holds, head-fits, entry-fits}
 use Rattle.packed_sheet.proofs.FieldGroups.{head-group, turn-group, size-group}
 use Rattle.packed_sheet.proofs.SoFar.{at-first, stores-then}
+use Rattle.packed_sheet.proofs.EachStore.{each-store}
 use Rattle.sheet.specs.Pens.{position, Begun, Waits}
 use Rattle.sheet.proofs.Pens.{waits-alone, begun-again}
 use Rattle.sheet.proofs.writer.write_sheet.Statement.{statement}
@@ -131,7 +132,11 @@ same-length : tie.Need-same-length Inv-loop μ-loop
 same-length c = c .before .before .put-end .kept .1 .0 ∙ c .before .before .before .before .before .before .loop .inv .3
 
 returns : tie.Need-returns Inv-loop μ-loop
-returns c = stores-then firstEdition (c .before .before .before .before .before .before .before .before .before .args .t1) (c .before .before .before .before .before .before .loop .inv .6) (c .before .before .put-end .ensures)
+returns c =
+    let start = c .before .before .before .before .before .before .before .before .before in
+    let line = start .args .t1 in
+    let all = stores-then firstEdition line (c .before .before .before .before .before .before .loop .inv .6) (c .before .before .put-end .ensures) in
+    (all, each-store firstEdition line (start .args .bytes .now) all)
 
 pub write-sheet-spec : {M : Type 1} → statement M
 write-sheet-spec =
