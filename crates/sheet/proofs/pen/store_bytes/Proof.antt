@@ -1,4 +1,4 @@
--- `store_bytes` meets its contract: each turn stores the sheet's next byte, once, and the bits behind it are the sheet's still. Assumes nothing.
+-- `store_bytes` meets its contract: each turn stores the sheet's next byte, and the bits behind it are the sheet's still. Assumes nothing.
 use mathlib.Core.Path.{_≡_, refl, _∙_}
 use Prim.Native.Nat.{_+_, _*_, _/_, _%_, _^_, _≤_}
 use native.Mathlib.Numerals.{add-one}
