@@ -1,7 +1,7 @@
 -- The fields of a line's sheet in the groups that the writer puts, each as one field of the sheet. Assumes nothing.
 use mathlib.Core.Path.{_≡_, sym, _∙_, ap}
 use mathlib.Core.List.{List}
-use Prim.Native.Nat.{ℕ, _+_, _*_, _≤_, _<_}
+use Prim.Native.Nat.{ℕ, _+_, _*_, _^_, _≤_, _<_}
 use native.Mathlib.Nat.{zero-mul, zero-add}
 use native.Mathlib.Omega.{arith}
 use lib.ListN.{length, take, drop, getD}
@@ -9,8 +9,8 @@ use Rattle.line.specs.declared.Line.{Line}
 use Rattle.line.specs.Checks.{distanceAt}
 use Rattle.line.specs.Ranges.{LineInRange}
 use Rattle.bits.specs.Bits.{bitsAt, valuesAt, packed, total}
-use Rattle.bits.proofs.Words.{as-one}
-use Rattle.packed_sheet.specs.Layout.{Edition, Holds, headWidths, distanceWidth, entryWidths, entryAt, bitCount, fillWidth}
+use Rattle.bits.proofs.Words.{two-parts, as-one}
+use Rattle.packed_sheet.specs.Layout.{Edition, Holds, headWidths, distanceWidth, entryWidths, entryAt, fillWidth}
 use Rattle.packed_sheet.specs.Writing.{headValues, entryValues, sheetOf}
 use Rattle.packed_sheet.proofs.WaysOut.{sheet-length}
 use Rattle.packed_sheet.proofs.ReadAgain.{head-fields-again, entry-again, last-again}
@@ -42,12 +42,11 @@ module _ (E : Edition) (holds : Holds E) (line : Line) (ok : LineInRange line) w
         (ap (drop 3) (entry-again E holds line ok i h))
         ∙ ap (λ (b : ℕ). bitsAt (sheetOf E line) b 42) from
 
-  -- The last distance.
-  pub last-distance : distanceAt line (line .count) ≡ bitsAt (sheetOf E line) (entryAt E (line .count)) distanceWidth
+  -- The last distance, and the zero bits of the fill.
+  pub last-group : distanceAt line (line .count) * 2 ^ fillWidth E (line .count) + 0
+      ≡ bitsAt (sheetOf E line) (entryAt E (line .count)) (distanceWidth + fillWidth E (line .count))
   unfolding valuesAt
-  last-distance = ap (λ (l : List ℕ). getD l 0 0) (sym (last-again E holds line ok .1))
-
-  -- The zero bits that fill the last byte.
-  pub fill-bits : 0 ≡ bitsAt (sheetOf E line) (bitCount E (line .count)) (fillWidth E (line .count))
-  unfolding valuesAt
-  fill-bits = ap (λ (l : List ℕ). getD l 1 0) (sym (last-again E holds line ok .1))
+  last-group =
+      let again = last-again E holds line ok .1 in
+      (λ j. getD (sym again j) 0 0 * 2 ^ fillWidth E (line .count) + getD (sym again j) 1 0)
+      ∙ two-parts (sheetOf E line) (entryAt E (line .count)) distanceWidth (fillWidth E (line .count)) (omega (arith, sheet-length E line))

@@ -48,15 +48,21 @@ module _ (pending width value : ℕ) (narrow : width < 64) (fits : value < 2 ^ w
 pub joined-whole : (before width value : ℕ) → before < 2 ^ 32 → width ≤ 32 → before * 2 ^ width % 2 ^ 64 + value ≡ before * 2 ^ width + value
 joined-whole before width value few narrow = ap (λ (n : ℕ). n + value) (shl-exact 32 width 64 few (omega arith))
 
--- ---- a byte of the bits that wait
+-- ---- parts of the bits that wait
 
--- The first byte of the last `left` bits of a word is the sheet's next, and those behind it are the bits after that.
+-- The first `size` of the last `held` bits are the sheet's next, and those behind them are the bits after that.
+pub waits-parted : (s : List ℕ) (at pending held size : ℕ) → size ≤ held → 8 * at + held ≤ 8 * length s → pending % 2 ^ held ≡ bitsAt s (8 * at) held
+    → (pending / 2 ^ (held - size) % 2 ^ size ≡ bitsAt s (8 * at) size) × (pending % 2 ^ (held - size) ≡ bitsAt s (8 * at + size) (held - size))
+waits-parted s at pending held size few h e =
+    let sum : held ≡ size + (held - size) = omega arith in
+    parted s (8 * at) pending size (held - size) (omega arith) (subst (λ (n : ℕ). pending % 2 ^ n ≡ bitsAt s (8 * at) n) sum e)
+
+-- A byte of them.
 pub next-byte : (s : List ℕ) (at word left : ℕ) → Bytes s → 8 * at + left ≤ 8 * length s → 8 ≤ left → word % 2 ^ left ≡ bitsAt s (8 * at) left
     → (word / 2 ^ (left - 8) % 256 ≡ getD s at 0) × (word % 2 ^ (left - 8) ≡ bitsAt s (8 * (at + 1)) (left - 8))
 next-byte s at word left b h l e =
-    let sum : left ≡ 8 + (left - 8) = omega arith in
     let from : 8 * at + 8 ≡ 8 * (at + 1) = omega arith in
-    let parts = parted s (8 * at) word 8 (left - 8) (omega arith) (subst (λ (n : ℕ). word % 2 ^ n ≡ bitsAt s (8 * at) n) sum e) in
+    let parts = waits-parted s at word left 8 l h e in
     (parts .0 ∙ byte-field s at b (omega arith), parts .1 ∙ ap (λ (n : ℕ). bitsAt s n (left - 8)) from)
 
 -- ---- a field of the sheet

@@ -27,7 +27,7 @@ fn store(line: Line, bytes: &mut [u8], at: usize, byte: u8)
 }
 
 // The whole bytes of the last `held` bits of `word`, which are the sheet's from byte `at` on, one after the other.
-pub(crate) fn store_bytes(line: Line, bytes: &mut [u8], at: usize, word: u64, held: usize)
+fn store_bytes(line: Line, bytes: &mut [u8], at: usize, word: u64, held: usize)
     requires { ⌜ Begun firstEdition line (now bytes) at ⌝ }
     requires { ⌜ (held ≤ 64) × (8 * at + held ≤ 8 * length (sheetOf firstEdition line)) × (word % 2 ^ held ≡ bitsAt (sheetOf firstEdition line) (8 * at) held) ⌝ }
     ensures { λ _. ⌜ Stores firstEdition line at (now (bytes .entry)) (at + held / 8) (now (bytes .exit)) ⌝ }
@@ -73,4 +73,35 @@ pub(crate) fn put(line: Line, bytes: &mut [u8], pen: Pen, width: usize, value: u
         pending: value,
         held: left,
     }
+}
+
+// Of the bits that wait, fewer than twice `size`, the first `size` are stored, where there are as many.
+fn store_part(line: Line, bytes: &mut [u8], pen: Pen, size: usize) -> Pen
+    requires { ⌜ Begun firstEdition line (now bytes) (pen .at) × Waits firstEdition line pen × (position pen ≤ 8 * length (sheetOf firstEdition line)) ⌝ }
+    requires { ⌜ (size ≤ 64) × (size % 8 ≡ 0) × (pen .held < 2 * size) ⌝ }
+    ensures { λ r. ⌜ Put firstEdition line (now (bytes .entry)) (now (bytes .exit)) pen r 0 × (r .held < size) ⌝ }
+{
+    let at = pen.at;
+    let held = pen.held;
+    if held < size {
+        return pen;
+    }
+    let left = held - size;
+    store_bytes(line, &mut *bytes, at, pen.pending >> left, size);
+    Pen {
+        at: at + size / 8,
+        pending: pen.pending,
+        held: left,
+    }
+}
+
+// All bits that wait, whole bytes: four at once, two and one.
+pub(crate) fn store_rest(line: Line, bytes: &mut [u8], pen: Pen)
+    requires { ⌜ Begun firstEdition line (now bytes) (pen .at) × Waits firstEdition line pen × (position pen ≤ 8 * length (sheetOf firstEdition line)) ⌝ }
+    requires { ⌜ pen .held % 8 ≡ 0 ⌝ }
+    ensures { λ _. ⌜ Stores firstEdition line (pen .at) (now (bytes .entry)) (pen .at + pen .held / 8) (now (bytes .exit)) ⌝ }
+{
+    let four = store_part(line, &mut *bytes, pen, 32);
+    let two = store_part(line, &mut *bytes, four, 16);
+    store_part(line, &mut *bytes, two, 8);
 }

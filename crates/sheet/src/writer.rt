@@ -28,7 +28,7 @@ use crate::layout::byte_count;
 use crate::pen::Pen;
 use crate::pen::join;
 use crate::pen::put;
-use crate::pen::store_bytes;
+use crate::pen::store_rest;
 use line::Curve;
 use line::Line;
 use line::check_line;
@@ -65,17 +65,17 @@ fn size_bits(curve: Curve) -> u64
     join(curve.radius as u64, SPIRAL, curve.spiral as u64)
 }
 
-// The last distance, behind head and entries, and the zero bits that fill the last byte.
+// The last distance, behind head and entries, with the zero bits that fill the last byte.
 fn put_end(line: Line, bytes: &mut [u8], pen: Pen, distance: u32)
     requires { ⌜ (outcome (lineChecks line) ≡ passed) × (distance ≡ distanceAt line (line .count)) ⌝ }
     requires { ⌜ Begun firstEdition line (now bytes) (pen .at) × Waits firstEdition line pen × (position pen ≡ entryAt firstEdition (line .count)) ⌝ }
     ensures { λ _. ⌜ Stores firstEdition line (pen .at) (now (bytes .entry)) (byteCount firstEdition (line .count)) (now (bytes .exit)) ⌝ }
 {
     let n = line.count;
-    let last = put(line, &mut *bytes, pen, DISTANCE, distance as u64);
     let fill = 8 * byte_count(n) - bit_count(n);
-    let word = join(last.pending, fill, 0);
-    store_bytes(line, &mut *bytes, last.at, word, last.held + fill);
+    let end = join(distance as u64, fill, 0);
+    let last = put(line, &mut *bytes, pen, DISTANCE + fill, end);
+    store_rest(line, &mut *bytes, last);
 }
 
 // The sheet of a line that passes, at the front of bytes that are enough: head, distances and curves, the last distance and the fill.
