@@ -75,7 +75,7 @@ caseLine first = oneCurve first 400000 177764 350000 40000
 abbrev pub shortArc : ℕ → Line
 shortArc A = oneCurve 500000 400000 A 350000 40000
 
--- A curve whose TT is 55 µm short of the exact one.
+-- A curve whose TT is 54 µm short of the exact one.
 abbrev pub farLine : Line
 farLine = oneCurve 20000000 20000000 427972 4958722 192135
 
@@ -99,8 +99,8 @@ pub record Examples : Type 0 where
   pub case-1-Y : Billionths 761727058170 (exactY 350000 40000)
   pub half-way-x : Billionths 19999591840591 (exactOffsetX 350000 40000 20000000)
   pub half-way-y : Billionths 95236706927 (exactOffsetY 350000 40000 20000000)
-  -- A point whose y is 1.649 µm short of the exact one.
-  pub short-offset : OffsetsWithin 494974 490748 463501381
+  -- A point whose y is 1.220 µm short of the exact one.
+  pub short-offset : OffsetsWithin 502362 486704 486235173
   pub case-1-k : Billionths 19997823326838 (exactCentre documentTerms 350000 40000)
   pub case-1-p : Billionths 190453960586 (exactShift documentTerms 350000 40000)
   pub case-1-D : Billionths 261638467230644 (exactArc 177764 350000 40000)
@@ -112,7 +112,7 @@ pub record Examples : Type 0 where
   pub two-accepted : stationsIn twoCurves (replicate 9 0) .reply ≡ filled 9
   pub second-TS : Within (tolerance 2) (pointsAt twoCurves 1 .TS) (exactPointsAt documentTerms twoCurves 1 .TS)
   pub two-end : Within (tolerance 2) (endOf twoCurves) (exactEnd documentTerms twoCurves)
-  -- case 2, an accepted straight of 1,722 µm; case 3, a refused one; case 7's curve in a line, a refused arc; case 6's, an accepted one
+  -- case 2, an accepted straight of 1,720 µm; case 3, a refused one; case 7's curve in a line, a refused arc; case 6's, an accepted one
   pub case-2 : stationsIn (caseLine 180991) (replicate 5 0) .reply ≡ filled 5
   pub case-2-straight : tenths leastStraight ≺ exactStraightAt documentTerms (caseLine 180991) 0
   pub case-3 : stationsIn (caseLine 180990) (replicate 5 0) .reply ≡ unfilled 15 0

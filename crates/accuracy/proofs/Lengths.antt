@@ -56,7 +56,7 @@ shorter {q} {v} {x} {y} m k h l e =
 pub above-tenths : {v : Fraction} (k : ℕ) → tenths k ≺ v → zero < plus (v .top)
 unfolding _⊘_ whole
 above-tenths {v} k h =
-    let l = parts-lt (k * v .under) (v .top *ℤ pos (1 * 10)) (h .cross) in
+    let l = parts-lt (pos (k * v .under)) (v .top *ℤ pos (1 * 10)) (h .cross) in
     omega (arith, plus-times (v .top) 10)
 
 pub not-below : {v : Fraction} (k : ℕ) → tenths k ≺ v → minus (v .top) ≡ zero

@@ -8,6 +8,7 @@ pub mod PowerSeries
 pub mod SineAndCosine
 pub mod Angles
 pub mod UnitSpiral
+pub mod NearestMicrometre
 pub mod NearElements
 pub mod Ratio
 pub mod Tangent

@@ -125,7 +125,7 @@ near-multiple {q = q} {v = v} k h =
       most = rw (times-plus k q, times-minus k q, times-plus k (v .top), times-minus k (v .top)) (multiple-side k (h .most));
     }
 
--- ---- a quotient by a natural number: of the fraction, and of the number, rounded down
+-- ---- a quotient by a natural number: of the fraction, and of the number, rounded
 
 part-side : {s a1 a2 u1 u2 d x : ℕ} (n : ℕ) → Side s a1 a2 u1 u2 d x → Side (s * n) a1 a2 u1 u2 (d * n) x
 part-side n h = record { holds = simp products (simp products at (mul-le-mul-left n (h .holds))) }
@@ -135,9 +135,10 @@ unfolding _⊘_
 near-part zero p h = absurd (not-suc-le-zero p)
 near-part (suc n) p h = record { least = part-side (suc n) (h .least); most = part-side (suc n) (h .most) }
 
-down-side : {s a1 a2 r1 r2 u1 u2 d x x′ : ℕ} (m c : ℕ) → zero < m → r1 * m + a2 ≤ a1 + r2 * m + c → x + 1000 * c ≤ x′ * m
+-- The quotient r of a by m is off by c over 2m at the most.
+pub quotient-side : {s a1 a2 r1 r2 u1 u2 d x x′ : ℕ} (m c : ℕ) → zero < m → 2 * (r1 * m + a2) ≤ 2 * (a1 + r2 * m) + c → 2 * x + 1000 * c ≤ 2 * (x′ * m)
     → Side (s * m) a1 a2 u1 u2 d x → Side s r1 r2 u1 u2 d x′
-down-side {d = d} m c above r e h =
+quotient-side {d = d} m c above r e h =
     record {
       holds =
           le-of-mul-le-mul-right
@@ -156,8 +157,8 @@ pub near-down : {s : ℕ} {q : ℤ} {v : Fraction} {x y : ℕ} (m x′ y′ : �
     → x + 1000 * m ≤ x′ * m → y ≤ y′ * m → Near (s * m) q v x y → Near s (down q m) v x′ y′
 near-down {q = q} m x′ y′ above e f h =
     record {
-      least = down-side m m above (omega (arith, down-least q above)) e (h .least);
-      most = down-side m 0 above (omega (arith, down-most q above)) (omega arith) (h .most);
+      least = quotient-side m (2 * m) above (omega (arith, down-least q above)) (omega arith) (h .least);
+      most = quotient-side m 0 above (omega (arith, down-most q above)) (omega arith) (h .most);
     }
 
 -- ---- a product of natural numbers, whose second fraction is not below zero

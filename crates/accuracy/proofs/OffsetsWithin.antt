@@ -33,7 +33,7 @@ use Rattle.accuracy.proofs.ElementsWithin.{within}
 
 -- More than any offset differs either way, in thousandths of a µm.
 abbrev pub offsetError : ℕ
-offsetError = 2084
+offsetError = 1584
 
 -- Both offsets are that near.
 pub record OffsetsNear (R L l : ℕ) : Type 0 where
@@ -128,20 +128,20 @@ module _ (A R L l : ℕ) (ok : CurveInRange A R L) (above : zero < L) (on : l �
   -- ---- the offsets
 
   -- A ratio at scale 10⁹ times a length in µm, over 10⁹, against the exact one in mm.
-  near-times : {q : ℤ} {v : Fraction} {x y : ℕ} (x′ y′ : ℕ) → l * x + 1000 * scale ≤ x′ * scale → l * y ≤ y′ * scale → Near scale q v x y
+  near-times : {q : ℤ} {v : Fraction} {x y : ℕ} (x′ y′ : ℕ) → l * x + 500 * scale ≤ x′ * scale → l * y + 500 * scale ≤ y′ * scale → Near scale q v x y
       → Near 1000 (rounded (pos l *ℤ q) scale) (nat l ⊗ v ⊘ 1000) x′ y′
   near-times x′ y′ e f h = near-part 1000 (lit< tt) (near-rounded {s = 1} scale x′ y′ (lit< tt) e f (near-multiple l h))
 
   short : l ≤ 500000000
   short = omega (arith, ok .L-most)
 
-  near-offset-x : Near 1000 (offsetX R L l) (exactOffsetX R L l) 1508 726
+  near-offset-x : Near 1000 (offsetX R L l) (exactOffsetX R L l) 1008 1226
   unfolding offsetX exactOffsetX
-  near-offset-x = near-times 1508 726 (omega (arith, short)) (omega (arith, short)) (near-unit-x (exactAngleTo R L l) angle)
+  near-offset-x = near-times 1008 1226 (omega (arith, short)) (omega (arith, short)) (near-unit-x (exactAngleTo R L l) angle)
 
-  near-offset-y : Near 1000 (offsetY R L l) (exactOffsetY R L l) 2084 550
+  near-offset-y : Near 1000 (offsetY R L l) (exactOffsetY R L l) 1584 1050
   unfolding offsetY exactOffsetY
-  near-offset-y = near-times 2084 550 (omega (arith, short)) (omega (arith, short)) (near-unit-y (exactAngleTo R L l) angle)
+  near-offset-y = near-times 1584 1050 (omega (arith, short)) (omega (arith, short)) (near-unit-y (exactAngleTo R L l) angle)
 
 -- At the outer end, which is all that an empty spiral has, both are 0.
 near-nothing : (v : Fraction) → Near 1000 (pos 0) (nat 0 ⊗ v ⊘ 1000) 0 0

@@ -1,6 +1,6 @@
 -- Whole numbers by their two parts: z is `plus z` less `minus z`, of which one is 0. The laws are sums and products of natural numbers.
 -- Assumes nothing.
-use mathlib.Core.Path.{_≡_, refl, sym, _∙_}
+use mathlib.Core.Path.{_≡_, refl, sym, _∙_, ap}
 use mathlib.Core.Bool.{Bool, true, false, not, cond}
 use Prim.Native.Nat.{ℕ, zero, suc, _+_, _*_, _-_, _/_, _≤_, _<_}
 use native.Mathlib.Nat.{zero-mul, mul-zero, suc-mul, suc-ne-zero, div-mul-le-self, lt-div-mul-add}
@@ -69,7 +69,7 @@ pub down-most : (z : ℤ) {m : ℕ} → zero < m → plus (down z m) * m + minus
 down-most (pos a) {m} h = omega (arith, div-mul-le-self a m, zero-mul m)
 down-most (negsuc a) {m} h = omega (arith, lt-div-mul-add {a = a} h, zero-mul m, suc-mul (a / m) m)
 
-pub down-least : (z : ℤ) {m : ℕ} → zero < m → plus z + minus (down z m) * m ≤ plus (down z m) * m + minus z + m
+pub down-least : (z : ℤ) {m : ℕ} → zero < m → plus z + minus (down z m) * m < plus (down z m) * m + minus z + m
 down-least (pos a) {m} h = omega (arith, lt-div-mul-add {a = a} h, zero-mul m)
 down-least (negsuc a) {m} h = omega (arith, div-mul-le-self a m, zero-mul m, suc-mul (a / m) m)
 
@@ -101,6 +101,14 @@ lt-parts (pos a) (negsuc b) h = let n : suc b ≤ zero = omega arith in absurd (
 lt-parts (negsuc a) (pos b) h = ltZ-yes tt
 lt-parts (negsuc a) (negsuc b) h = ltZ-yes (lt→ltb b a (omega arith))
 
-pub parts-lt : (n : ℕ) (z : ℤ) → pos n <ℤ z → n < plus z
-parts-lt n (pos m) h = ltb→lt n m (h .lt)
-parts-lt n (negsuc m) h = absurd (h .lt)
+pub parts-lt : (a b : ℤ) → a <ℤ b → plus a + minus b < plus b + minus a
+parts-lt (pos a) (pos b) h = let n = ltb→lt a b (h .lt) in omega arith
+parts-lt (pos a) (negsuc b) h = absurd (h .lt)
+parts-lt (negsuc a) (pos b) h = omega arith
+parts-lt (negsuc a) (negsuc b) h = let n = ltb→lt b a (h .lt) in omega arith
+
+pub eq-parts : (a b : ℤ) → plus a + minus b ≡ plus b + minus a → a ≡ b
+eq-parts (pos a) (pos b) h = ap pos (omega arith)
+eq-parts (pos a) (negsuc b) h = let n : suc b ≡ zero = omega arith in absurd (omega (arith, n))
+eq-parts (negsuc a) (pos b) h = let n : suc a ≡ zero = omega arith in absurd (omega (arith, n))
+eq-parts (negsuc a) (negsuc b) h = ap negsuc (omega arith)

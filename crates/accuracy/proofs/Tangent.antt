@@ -102,12 +102,12 @@ module _ (A R L : ℕ) (ok : CurveInRange A R L) (n : ℕ) (seven : 7 ≤ n) whe
   near-base =
       near-sum (near-nat 1000 R) (near-value shift (near-p A R L ok n seven))
 
-  pub near-TT : Near 1000 (tangentOf A R L) (exactTangent n A R L) 234270 210825
+  pub near-TT : Near 1000 (tangentOf A R L) (exactTangent n A R L) 233770 211325
   unfolding tangentOf exactTangent exactTan sine cosine
   near-TT =
       rw (shift .same, tan-is)
       (near-sum (near-k A R L ok n seven)
-      (near-rounded scale 216545 188979 (lit< tt) (lit≤ tt) (lit≤ tt)
+      (near-rounded scale 216045 189479 (lit< tt) (lit≤ tt) (lit≤ tt)
       (near-product 5083333333 2318405787 near-base near-tan
       (ratio-sign sine cosine sine-above cosine-above)
       (omega (arith, ok .R-most, shift .high))

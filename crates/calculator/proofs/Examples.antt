@@ -11,7 +11,7 @@ use Rattle.stationing.proofs.Examples.{caseLine}
 use Rattle.calculator.specs.Lengths.{lengthsBy, lengthsAfter}
 
 pub record Examples : Type 0 where
-  pub straights : take 3 (lengthsBy (caseLine 500000 350000 40000) .straights) ≡ pos 319010722 ∷ pos 219010722 ∷ pos 0 ∷ []
+  pub straights : take 3 (lengthsBy (caseLine 500000 350000 40000) .straights) ≡ pos 319010720 ∷ pos 219010720 ∷ pos 0 ∷ []
   pub arcs : take 2 (lengthsBy (caseLine 500000 350000 40000) .arcs) ≡ pos 261638467 ∷ pos 0 ∷ []
   pub none : lengthsAfter (refused 15 0) (lengthsBy (caseLine 180990 350000 40000))
       ≡ record { straights = replicate 65 (pos 0); arcs = replicate 64 (pos 0) }

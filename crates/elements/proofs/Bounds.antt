@@ -110,11 +110,11 @@ module _ (R L : ℕ) (R-most : R ≤ 5000000) (L-most : L ≤ 500000) (L-to-R : 
 
   pub X-between : Between (spiralX R L) 0 500000000
   unfolding spiralX
-  X-between = rounded-between 1000000 500000000 (product-between spiral x-t) (omega arith)
+  X-between = rounded-between 1000000 500000000 (omega arith) (product-between spiral x-t) (omega arith)
 
   pub Y-between : Between (spiralY R L) 0 83333333
   unfolding spiralY
-  Y-between = rounded-between 1000000 83333333 (product-between spiral y-t) (omega arith)
+  Y-between = rounded-between 1000000 83333333 (omega arith) (product-between spiral y-t) (omega arith)
 
   -- k is not below zero.
   pub k-between : Between (centreOf R L) 0 500000000
@@ -155,7 +155,7 @@ module _ (A : ℕ) (A-most : A ≤ 432000) where
 
   pub turn-between : (R : ℕ) → R ≤ 5000000 → Between (rounded (pos (R * fullAngle A)) 1000000) 0 10471975510
   turn-between R h =
-      rounded-between 1000000 10471975510
+      rounded-between 1000000 10471975510 (omega arith)
       (product-between
       (natural R {least = 0} {most = 5000000} (omega arith) h)
       (natural (fullAngle A) {least = 0} {most = 2094395102} (omega arith) (full-angle-most A A-most)))
@@ -208,7 +208,7 @@ bounds A R L ok =
       turn = turn-between A Am R Rm;
       TT =
           sum-between (k-between R L Rm Lm LR)
-          (rounded-between scale 11800000000
+          (rounded-between scale 11800000000 (omega arith)
           (product-between
           (sum-between (natural (1000 * R) {least = 0} {most = 5000000000} (omega arith) (omega arith)) (p-between R L Rm Lm LR))
           (tan-between A Am))

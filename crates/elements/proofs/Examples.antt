@@ -13,34 +13,46 @@ use Rattle.elements.specs.TurnAngle.{turnAngle}
 -- R 350,000 and L 40,000 in each; case 8 is without spirals.
 pub record Examples : Type 0 where
   pub case-1 : elementReply 177764 350000 40000
-      ≡ answered (record { X = pos 39986940; Y = pos 761727; k = pos 19997823; p = pos 190454; D = pos 261638467; TT = pos 180989278 })
+      ≡ answered (record { X = pos 39986941; Y = pos 761727; k = pos 19997824; p = pos 190454; D = pos 261638467; TT = pos 180989280 })
   pub case-6 : elementReply 23574 350000 40000
-      ≡ answered (record { X = pos 39986940; Y = pos 761727; k = pos 19997823; p = pos 190454; D = pos 1491; TT = pos 40031263 })
+      ≡ answered (record { X = pos 39986941; Y = pos 761727; k = pos 19997824; p = pos 190454; D = pos 1492; TT = pos 40031265 })
   pub case-7 : arcOf 23573 350000 40000 ≡ negsuc 204
   pub case-7-refused : elementReply 23573 350000 40000 ≡ declined 14 0
   pub case-8 : elementReply 1 350000 0
-      ≡ answered (record { X = pos 0; Y = pos 0; k = pos 0; p = pos 0; D = pos 1696; TT = pos 848 })
-  pub case-8-short : arcOf 1 200000 0 ≡ pos 969
+      ≡ answered (record { X = pos 0; Y = pos 0; k = pos 0; p = pos 0; D = pos 1697; TT = pos 848 })
+  pub case-8-short : arcOf 1 200000 0 ≡ pos 970
   pub case-8-refused : elementReply 1 200000 0 ≡ declined 14 0
   pub greatest : elementReply 432000 5000000 0
       ≡ answered (record { X = pos 0; Y = pos 0; k = pos 0; p = pos 0; D = pos 10471975510; TT = pos 8660254040 })
   pub widest-spiral : elementReply 432000 500000 500000
-      ≡ answered (record { X = pos 487644675; Y = pos 81845238; k = pos 247931906; p = pos 20636519; D = pos 547197551; TT = pos 1149700809 })
-  pub arc-of-1000 : elementReply 1 206271 0
+      ≡ answered (record { X = pos 487644676; Y = pos 81845238; k = pos 247931907; p = pos 20636518; D = pos 547197551; TT = pos 1149700809 })
+  pub arc-of-1000 : elementReply 1 206168 0
       ≡ answered (record { X = pos 0; Y = pos 0; k = pos 0; p = pos 0; D = pos 1000; TT = pos 500 })
-  pub arc-of-999 : elementReply 1 206270 0 ≡ declined 14 0
+  pub arc-of-999 : elementReply 1 206167 0 ≡ declined 14 0
+  -- ---- quotients that are exactly a half: X, Y, the sine's part and the arc; X, the sine's and the cosine's parts and the arc; the arc and TT
+  pub half-Y : elementReply 431987 4375000 500000
+      ≡ answered (record { X = pos 499836760; Y = pos 9521589; k = pos 249972792; p = pos 2380675; D = pos 8662702833; TT = pos 7831266776 })
+  pub half-cosine : elementReply 431996 4550000 150000
+      ≡ answered (record { X = pos 149995925; Y = pos 824160; k = pos 74999321; p = pos 206042; D = pos 9379409481; TT = pos 7956010884 })
+  pub half-TT : elementReply 100000 500000 0
+      ≡ answered (record { X = pos 0; Y = pos 0; k = pos 0; p = pos 0; D = pos 242406841; TT = pos 123634594 })
+  -- ---- curves where the rounding of each quotient of the rule counts
+  pub each-quotient-1 : elementReply 410905 819806 400541
+      ≡ answered (record { X = pos 398157270; Y = pos 32477037; k = pos 199872780; p = pos 8136397; D = pos 1232613926; TT = pos 1478215520 })
+  pub each-quotient-2 : elementReply 350728 611817 451315
+      ≡ answered (record { X = pos 445214121; Y = pos 54947268; k = pos 224638221; p = pos 13802077; D = pos 589004755; TT = pos 937071915 })
+  pub each-quotient-3 : elementReply 307603 687975 479227
+      ≡ answered (record { X = pos 473446403; Y = pos 55154285; k = pos 238647975; p = pos 13847127; D = pos 546751099; TT = pos 886784415 })
+  -- ---- refusals
   pub deflection-refused : elementReply 0 19999 500001 ≡ declined 9 0
   pub radius-refused : elementReply 1 19999 500001 ≡ declined 10 0
   pub spiral-refused : elementReply 1 20000 20001 ≡ declined 11 0
-  -- ---- points of spirals; at the rounded ones each rounding counts
-  pub half-way : pointReply 350000 40000 20000000 ≡ answered (record { x = pos 19999591; y = pos 95236 })
-  pub inner-end : pointReply 350000 40000 40000000 ≡ answered (record { x = pos 39986940; y = pos 761727 })
-  pub longest : pointReply 500000 500000 500000000 ≡ answered (record { x = pos 487644675; y = pos 81845238 })
-  pub rounded-1 : pointReply 511111 499999 369757865 ≡ answered (record { x = pos 367120821; y = pos 32801313 })
-  pub rounded-2 : pointReply 511111 499999 413920011 ≡ answered (record { x = pos 409293131; y = pos 45878991 })
-  pub rounded-3 : pointReply 511111 499999 442253848 ≡ answered (record { x = pos 435821418; y = pos 55822928 })
-  pub rounded-4 : pointReply 511111 499999 497293286 ≡ answered (record { x = pos 485777290; y = pos 78863928 })
-  pub rounded-5 : pointReply 511111 499999 448407112 ≡ answered (record { x = pos 441517244; y = pos 58150611 })
+  -- ---- points of spirals: both offsets exactly a half, and one where the rounding of each quotient counts
+  pub half-way : pointReply 350000 40000 20000000 ≡ answered (record { x = pos 19999592; y = pos 95237 })
+  pub inner-end : pointReply 350000 40000 40000000 ≡ answered (record { x = pos 39986941; y = pos 761727 })
+  pub longest : pointReply 500000 500000 500000000 ≡ answered (record { x = pos 487644676; y = pos 81845238 })
+  pub half-offsets : pointReply 4375000 500000 500000000 ≡ answered (record { x = pos 499836760; y = pos 9521589 })
+  pub each-point-quotient : pointReply 511111 499999 439235599 ≡ answered (record { x = pos 433018545; y = pos 54703408 })
   pub no-spiral : pointReply 350000 0 0 ≡ answered (record { x = pos 0; y = pos 0 })
   pub beyond-spiral : pointReply 350000 40000 40000001 ≡ declined 17 0
   pub beyond-no-spiral : pointReply 350000 0 1 ≡ declined 17 0
@@ -71,17 +83,20 @@ examples =
       widest-spiral = refl;
       arc-of-1000 = refl;
       arc-of-999 = refl;
+      half-Y = refl;
+      half-cosine = refl;
+      half-TT = refl;
+      each-quotient-1 = refl;
+      each-quotient-2 = refl;
+      each-quotient-3 = refl;
       deflection-refused = refl;
       radius-refused = refl;
       spiral-refused = refl;
       half-way = refl;
       inner-end = refl;
       longest = refl;
-      rounded-1 = refl;
-      rounded-2 = refl;
-      rounded-3 = refl;
-      rounded-4 = refl;
-      rounded-5 = refl;
+      half-offsets = refl;
+      each-point-quotient = refl;
       no-spiral = refl;
       beyond-spiral = refl;
       beyond-no-spiral = refl;

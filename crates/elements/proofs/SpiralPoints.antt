@@ -1,9 +1,10 @@
 -- The points of a spiral: the ranges of what is computed for one, and its two ends: at the outer end both offsets are 0, at the inner end they
 -- are X and Y of the element call. Assumes nothing.
 use mathlib.Core.Path.{_≡_, sym, _∙_, ap}
-use Prim.Native.Nat.{ℕ, zero, suc, _*_, _/_, _≤_, _<_}
-use native.Mathlib.Nat.{mul-le-mul, mul-div-cancel, mul-div-cancel-left, mul-div-mul-left, div-le-of-le-mul, mul-assoc, zero-mul, zero-div}
+use Prim.Native.Nat.{ℕ, zero, suc, _+_, _*_, _/_, _≤_, _<_}
+use native.Mathlib.Nat.{mul-le-mul, mul-div-cancel, mul-div-cancel-left, mul-div-mul-left, div-le-of-le-mul, div-lt-iff-lt-mul, mul-assoc, mul-pos, zero-mul}
 use native.Mathlib.Omega.{arith}
+use lib.Dec.{lit<}
 use lib.IntN.{ℤ, pos, negsuc, _*ℤ_}
 use Rattle.numbers.specs.Whole.{Between}
 use Rattle.numbers.proofs.Ranges.{at-most, natural, product-between}
@@ -44,27 +45,33 @@ module _ (R L l : ℕ) (r : L ≤ R) (h : l ≤ 1000 * L) (most : L ≤ 500000) 
   pub x-between : Between (offsetX R L l) 0 500000000
   unfolding offsetX
   x-between =
-      rounded-between scale 500000000
+      rounded-between scale 500000000 (omega arith)
       (product-between (natural l {least = 0} {most = 500000000} (omega arith) (omega arith)) (unitX-between (angleTo R L l) (angle-most R L l r h)))
       (omega arith)
 
   pub y-between : Between (offsetY R L l) 0 83333333
   unfolding offsetY
   y-between =
-      rounded-between scale 83333333
+      rounded-between scale 83333333 (omega arith)
       (product-between (natural l {least = 0} {most = 500000000} (omega arith) (omega arith)) (unitY-between (angleTo R L l) (angle-most R L l r h)))
       (omega arith)
 
 -- ---- the outer end
 
-nothing : (z : ℤ) (m : ℕ) → rounded (pos 0 *ℤ z) m ≡ pos 0
+-- Half a unit of nothing is nothing.
+half-of-nothing : (m : ℕ) → zero < m → (2 * 0 + m) / (2 * m) ≡ 0
+half-of-nothing m above =
+    let below : (2 * 0 + m) / (2 * m) < 1 = div-lt-iff-lt-mul (mul-pos (lit< tt) above) .1 (omega arith) in
+    omega arith
+
+nothing : (z : ℤ) (m : ℕ) → zero < m → rounded (pos 0 *ℤ z) m ≡ pos 0
 unfolding rounded
-nothing (pos n) m = ap pos (rw (zero-mul n) (zero-div m))
-nothing (negsuc n) m = rw (zero-mul (suc n)) (ap pos (zero-div m))
+nothing (pos n) m above = rw (zero-mul n) (ap pos (half-of-nothing m above))
+nothing (negsuc n) m above = rw (zero-mul (suc n)) (ap pos (half-of-nothing m above))
 
 pub at-outer-end : (R L : ℕ) → offsetsBy R L 0 ≡ record { x = pos 0; y = pos 0 }
 unfolding offsetsBy offsetX offsetY
-at-outer-end R L = rw (nothing (unitX (angleTo R L 0)) scale, nothing (unitY (angleTo R L 0)) scale)
+at-outer-end R L = rw (nothing (unitX (angleTo R L 0)) scale (lit< tt), nothing (unitY (angleTo R L 0)) scale (lit< tt))
 
 -- ---- the inner end
 
@@ -78,13 +85,14 @@ whole-angle R L above =
 same-rounding : {z : ℤ} {least most : ℕ} (L : ℕ) → Between z least most → rounded (pos (1000 * L) *ℤ z) scale ≡ rounded (pos L *ℤ z) 1000000
 unfolding rounded
 same-rounding L b =
-    let cut : 1000 * L * b .value / (1000 * 1000000) ≡ L * b .value / 1000000 = rw (mul-assoc 1000 L (b .value)) (mul-div-mul-left (L * b .value) 1000000 (omega arith)) in
-    rw (b .same) (ap pos cut)
+    let n = L * b .value in
+    let whole : 2 * (1000 * L * b .value) + scale ≡ 1000 * (2 * n + 1000000) = omega (arith, mul-assoc 1000 L (b .value)) in
+    rw (b .same) (ap pos (rw whole (mul-div-mul-left (2 * n + 1000000) 2000000 (omega arith))))
 
 pub at-inner-end : (R L : ℕ) → L ≤ R → offsetsBy R L (1000 * L) ≡ record { x = spiralX R L; y = spiralY R L }
 unfolding offsetsBy offsetX offsetY spiralX spiralY
 at-inner-end R zero h =
-    at-outer-end R 0 ∙ sym (rw (nothing (unitX (spiralAngle R 0)) 1000000, nothing (unitY (spiralAngle R 0)) 1000000))
+    at-outer-end R 0 ∙ sym (rw (nothing (unitX (spiralAngle R 0)) 1000000 (lit< tt), nothing (unitY (spiralAngle R 0)) 1000000 (lit< tt)))
 at-inner-end R (suc L) h =
     let most = spiral-angle-most R (suc L) h in
     rw (whole-angle R (suc L) (omega arith), same-rounding (suc L) (unitX-between (spiralAngle R (suc L)) most), same-rounding (suc L) (unitY-between (spiralAngle R (suc L)) most))

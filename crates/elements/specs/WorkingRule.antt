@@ -10,9 +10,9 @@ use Rattle.numbers.specs.Whole.{_÷_}
 abbrev pub scale : ℕ
 scale = 1000000000
 
--- The rounding of an element's last division: "rounded down".
+-- The rounding of an element's last division (document 02, N4): "to the nearest µm, halves up". Every other quotient is "rounded down".
 unfoldable pub rounded : ℤ → ℕ → ℤ
-rounded z m = z ÷ pos m
+rounded z m = (pos 2 *ℤ z +ℤ pos m) ÷ pos (2 * m)
 
 -- "Full angle: A × 3,141,592,654 / 648,000."
 unfoldable pub fullAngle : ℕ → ℕ

@@ -1,6 +1,6 @@
 // Document 01's working rule for one curve on machine numbers: angles and ratios at scale 10⁹, lengths in mm, elements in µm.
 ghost use mathlib.Core.Path.{_≡_};
-ghost use Prim.Native.Nat.{_*_, _/_, _<_, _≤_};
+ghost use Prim.Native.Nat.{_*_, _/_, _%_, _<_, _≤_};
 ghost use lib.IntN.{pos};
 ghost use Rattle.refusals.specs.Replying.{answered, reply};
 ghost use Rattle.line.specs.Ranges.{CurveInRange};
@@ -30,12 +30,12 @@ struct Spirals {
     shift: u64,
 }
 
-// The rounding of an element's last division.
+// The rounding of an element's last division: to the nearest, halves up. The divisor is even.
 pub(crate) fn round(product: u64, divisor: u64) -> u64
-    requires { ⌜ 0 < divisor ⌝ }
+    requires { ⌜ (product ≤ 12000000000000000000) × (0 < divisor) × (divisor ≤ scale) × (divisor % 2 ≡ 0) ⌝ }
     ensures { λ r. ⌜ pos r ≡ rounded (pos product) divisor ⌝ }
 {
-    product / divisor
+    (product + divisor / 2) / divisor
 }
 
 // A length in mm times a ratio, in µm.

@@ -61,36 +61,36 @@ three = behind (curve false 100000 400000 50000)
 
 pub record Examples : Type 0 where
   pub start : pegReply one 0 ≡ plain Straight 0 0
-  pub before-TS : pegReply one 319010721 ≡ plain Straight 0 319010721
-  pub at-TS : pegReply one 319010722 ≡ plain SpiralIn 1 0
-  pub half-way : pegReply one 339010722 ≡ at SpiralIn 1 (pos 20000000) (pos 19999591) (pos 95236)
-  pub before-SC : pegReply one 359010721 ≡ at SpiralIn 1 (pos 39999999) (pos 39986939) (pos 761727)
-  pub at-SC : pegReply one 359010722 ≡ plain Arc 1 0
-  pub before-CS : pegReply one 620649188 ≡ plain Arc 1 261638466
-  pub at-CS : pegReply one 620649189 ≡ at SpiralOut 1 (pos 40000000) (pos 39986940) (pos 761727)
-  pub half-way-back : pegReply one 640649189 ≡ at SpiralOut 1 (pos 20000000) (pos 19999591) (pos 95236)
-  pub before-ST : pegReply one 660649188 ≡ at SpiralOut 1 (pos 1) (pos 1) (pos 0)
-  pub at-ST : pegReply one 660649189 ≡ plain Straight 1 0
-  pub end : pegReply one 879659911 ≡ plain Straight 1 219010722
-  pub beyond : pegReply one 879659912 ≡ declined 17 0
+  pub before-TS : pegReply one 319010719 ≡ plain Straight 0 319010719
+  pub at-TS : pegReply one 319010720 ≡ plain SpiralIn 1 0
+  pub half-way : pegReply one 339010720 ≡ at SpiralIn 1 (pos 20000000) (pos 19999592) (pos 95237)
+  pub before-SC : pegReply one 359010719 ≡ at SpiralIn 1 (pos 39999999) (pos 39986940) (pos 761727)
+  pub at-SC : pegReply one 359010720 ≡ plain Arc 1 0
+  pub before-CS : pegReply one 620649186 ≡ plain Arc 1 261638466
+  pub at-CS : pegReply one 620649187 ≡ at SpiralOut 1 (pos 40000000) (pos 39986941) (pos 761727)
+  pub half-way-back : pegReply one 640649187 ≡ at SpiralOut 1 (pos 20000000) (pos 19999592) (pos 95237)
+  pub before-ST : pegReply one 660649186 ≡ at SpiralOut 1 (pos 1) (pos 1) (pos 0)
+  pub at-ST : pegReply one 660649187 ≡ plain Straight 1 0
+  pub end : pegReply one 879659907 ≡ plain Straight 1 219010720
+  pub beyond : pegReply one 879659908 ≡ declined 17 0
   -- ---- the second line
   pub before-start : pegReply two 999999 ≡ declined 17 0
   pub at-start : pegReply two 1000000 ≡ plain Straight 0 0
-  pub left-in : pegReply two 340010722 ≡ at SpiralIn 1 (pos 20000000) (pos 19999591) (negℤ (pos 95236))
-  pub left-out : pegReply two 641649189 ≡ at SpiralOut 1 (pos 20000000) (pos 19999591) (negℤ (pos 95236))
-  pub before-second : pegReply two 894115695 ≡ plain Straight 1 232466506
-  pub no-spiral-in : pegReply two 894115696 ≡ plain Arc 2 0
-  pub no-spiral-out : pegReply two 1063800484 ≡ plain Straight 2 0
-  pub second-end : pegReply two 1477256269 ≡ plain Straight 2 413455785
-  pub second-in : pegReply three 876691107 ≡ at SpiralIn 2 (pos 20000000) (pos 19999800) (pos 66666)
-  pub second-out : pegReply three 1070616579 ≡ at SpiralOut 2 (pos 30000000) (pos 29998481) (pos 224991)
-  pub left-numbers : stationNumbers three 340010722 ≡ pos 1 ∷ pos 1 ∷ pos 20000000 ∷ pos 19999591 ∷ negℤ (pos 95236) ∷ []
+  pub left-in : pegReply two 340010720 ≡ at SpiralIn 1 (pos 20000000) (pos 19999592) (negℤ (pos 95237))
+  pub left-out : pegReply two 641649187 ≡ at SpiralOut 1 (pos 20000000) (pos 19999592) (negℤ (pos 95237))
+  pub before-second : pegReply two 894115691 ≡ plain Straight 1 232466504
+  pub no-spiral-in : pegReply two 894115692 ≡ plain Arc 2 0
+  pub no-spiral-out : pegReply two 1063800480 ≡ plain Straight 2 0
+  pub second-end : pegReply two 1477256265 ≡ plain Straight 2 413455785
+  pub second-in : pegReply three 876691103 ≡ at SpiralIn 2 (pos 20000000) (pos 19999800) (pos 66666)
+  pub second-out : pegReply three 1070616575 ≡ at SpiralOut 2 (pos 30000000) (pos 29998481) (pos 224992)
+  pub left-numbers : stationNumbers three 340010720 ≡ pos 1 ∷ pos 1 ∷ pos 20000000 ∷ pos 19999592 ∷ negℤ (pos 95237) ∷ []
   -- ---- a line without curves, refused lines, and a peg as numbers
   pub no-curve : fill (pegChecks noCurve 250000000) (stationNumbers noCurve 250000000) (replicate 6 (pos 7)) .reply ≡ filled 5
   pub no-curve-numbers : fill (pegChecks noCurve 250000000) (stationNumbers noCurve 250000000) (replicate 6 (pos 7)) .buffer
       ≡ pos 0 ∷ pos 0 ∷ pos 250000000 ∷ pos 0 ∷ pos 0 ∷ pos 7 ∷ []
   pub sixteen-last : fill (pegChecks noCurve 500000001) (stationNumbers noCurve 500000001) [] .reply ≡ unfilled 17 0
-  pub fifteen-first : pegReply (caseLine 180990 350000 40000) 879659912 ≡ declined 15 0
+  pub fifteen-first : pegReply (caseLine 180990 350000 40000) 879659908 ≡ declined 15 0
   pub kinds : map kindNumber (Straight ∷ SpiralIn ∷ Arc ∷ SpiralOut ∷ []) ≡ 0 ∷ 1 ∷ 2 ∷ 3 ∷ []
   pub numbers : pegNumbers (record { kind = Arc; number = 7; length = pos 8; offsets = record { x = pos 9; y = pos 10 } })
       ≡ pos 2 ∷ pos 7 ∷ pos 8 ∷ pos 9 ∷ pos 10 ∷ []

@@ -32,7 +32,7 @@ pub record Examples : Type 0 where
   pub refusal : answerNumber (unfilled 15 64) ≡ 64424509504
   pub version-0-4-0 : version ≡ 4000
   -- ---- document 01's cases
-  pub case-1 : elementNumbers 177764 350000 40000 ≡ 39986940 ∷ 761727 ∷ 19997823 ∷ 190454 ∷ 261638467 ∷ 180989278 ∷ []
+  pub case-1 : elementNumbers 177764 350000 40000 ≡ 39986941 ∷ 761727 ∷ 19997824 ∷ 190454 ∷ 261638467 ∷ 180989280 ∷ []
   pub case-4-checked : checkReply sheet4 ≡ unfilled 13 1
   pub case-9-numbers : sheetNumbers sheet9 ≡ 0 ∷ 70 ∷ 8 ∷ 0 ∷ 500000 ∷ []
   pub case-9-sheet : numbersSheet (0 ∷ 70 ∷ 8 ∷ 0 ∷ 500000 ∷ []) ≡ sheet9
@@ -47,7 +47,7 @@ pub record Examples : Type 0 where
 -- Case 1's curve as the element call answers it.
 abbrev elements1 : Elements
 elements1 =
-    record { x = 39986940; y = 761727; centre = 19997823; shift = 190454; arc = 261638467; tangent = 180989278 }
+    record { x = 39986941; y = 761727; centre = 19997824; shift = 190454; arc = 261638467; tangent = 180989280 }
 
 -- Case 9, whose row held 7.
 stations9 : (filled 1 ≡ fill (sheetChecks sheet9) (sheetStations sheet9) (7 ∷ []) .reply)

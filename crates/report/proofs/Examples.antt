@@ -8,14 +8,14 @@ use Rattle.report.specs.Numbers.{ascii, digitsWithin, decimal, metres}
 use Rattle.report.specs.Text.{words, heading, turnName, pointName, pointCurve, pointLine, pointLines, stationList, refusalLine}
 
 pub record Examples : Type 0 where
-  pub case-1 : stationList (319010722 ∷ 359010722 ∷ 620649189 ∷ 660649189 ∷ 879659911 ∷ [])
-      ≡ ascii "POINT CURVE STATION\nTS 1 319.010722\nSC 1 359.010722\nCS 1 620.649189\nST 1 660.649189\nEND 0 879.659911\n"
+  pub case-1 : stationList (319010720 ∷ 359010720 ∷ 620649187 ∷ 660649187 ∷ 879659907 ∷ [])
+      ≡ ascii "POINT CURVE STATION\nTS 1 319.010720\nSC 1 359.010720\nCS 1 620.649187\nST 1 660.649187\nEND 0 879.659907\n"
   pub no-curve : stationList (500000000 ∷ []) ≡ ascii "POINT CURVE STATION\nEND 0 500.000000\n"
   pub second-curve : pointLine (1 ∷ 2 ∷ 3 ∷ 4 ∷ 5 ∷ 6 ∷ 7 ∷ 8 ∷ 9 ∷ []) 6 ≡ ascii "CS 2 0.000007\n"
   pub third-curve : pointLine (replicate 13 7) 8 ≡ ascii "TS 3 0.000007\n"
   pub last-curve : pointLine (replicate 257 7) 255 ≡ ascii "ST 64 0.000007\n"
   pub first-station : metres 0 ≡ ascii "0.000000"
-  pub short-straight : metres 1722 ≡ ascii "0.001722"
+  pub short-straight : metres 1720 ≡ ascii "0.001720"
   pub greatest : metres 18446744073709551615 ≡ ascii "18446744073709.551615"
   pub refusal : refusalLine 15 0 ≡ ascii "REFUSED 15 0\n"
   pub one-digit-to-9 : refusalLine 9 10 ≡ ascii "REFUSED 9 10\n"

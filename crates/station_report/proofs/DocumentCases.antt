@@ -40,28 +40,28 @@ sheet1 =
 -- A deflection of 177,764 seconds is case 1's.
 pub record DocumentCases : Type 0 where
   pub case-1-elements : elementReply 177764 350000 40000
-      ≡ answered (record { X = pos 39986940; Y = pos 761727; k = pos 19997823; p = pos 190454; D = pos 261638467; TT = pos 180989278 })
+      ≡ answered (record { X = pos 39986941; Y = pos 761727; k = pos 19997824; p = pos 190454; D = pos 261638467; TT = pos 180989280 })
   pub case-1-read : outcome (readChecks firstEdition sheet1) ≡ passed
   pub case-1-line : readLine firstEdition sheet1 ≡ caseLine 500000 350000 40000
   pub case-1-accepted : stationsIn (caseLine 500000 350000 40000) row .reply ≡ filled 5
   pub case-1-stations : stationsIn (caseLine 500000 350000 40000) row .buffer
-      ≡ 319010722 ∷ 359010722 ∷ 620649189 ∷ 660649189 ∷ 879659911 ∷ 6 ∷ 7 ∷ []
+      ≡ 319010720 ∷ 359010720 ∷ 620649187 ∷ 660649187 ∷ 879659907 ∷ 6 ∷ 7 ∷ []
   pub case-1-printed : sheetText sheet1
-      ≡ ascii "POINT CURVE STATION\nTS 1 319.010722\nSC 1 359.010722\nCS 1 620.649189\nST 1 660.649189\nEND 0 879.659911\n"
+      ≡ ascii "POINT CURVE STATION\nTS 1 319.010720\nSC 1 359.010720\nCS 1 620.649187\nST 1 660.649187\nEND 0 879.659907\n"
   pub case-2-accepted : stationsIn (caseLine 180991 350000 40000) (replicate 5 0) .reply ≡ filled 5
-  pub case-2-straight : straightAt (caseLine 180991 350000 40000) 0 ≡ pos 1722
+  pub case-2-straight : straightAt (caseLine 180991 350000 40000) 0 ≡ pos 1720
   pub case-3 : stationsIn (caseLine 180990 350000 40000) [] .reply ≡ unfilled 15 0
   pub case-4 : stationsIn (caseLine 500000 350000 39999) (replicate 5 0) .reply ≡ unfilled 13 1
   pub case-5-passes : radiusServes 70 8 167751 ≡ true
   pub case-5-accepted : stationsIn (caseLine 500000 167751 0) (replicate 5 0) .reply ≡ filled 5
   pub case-5-refused : stationsIn (caseLine 500000 167750 0) (replicate 5 0) .reply ≡ unfilled 12 1
   pub case-6 : elementReply 23574 350000 40000
-      ≡ answered (record { X = pos 39986940; Y = pos 761727; k = pos 19997823; p = pos 190454; D = pos 1491; TT = pos 40031263 })
+      ≡ answered (record { X = pos 39986941; Y = pos 761727; k = pos 19997824; p = pos 190454; D = pos 1492; TT = pos 40031265 })
   pub case-7 : arcOf 23573 350000 40000 ≡ negsuc 204
   pub case-7-refused : elementReply 23573 350000 40000 ≡ declined 14 0
   pub case-8 : elementReply 1 350000 0
-      ≡ answered (record { X = pos 0; Y = pos 0; k = pos 0; p = pos 0; D = pos 1696; TT = pos 848 })
-  pub case-8-short : arcOf 1 200000 0 ≡ pos 969
+      ≡ answered (record { X = pos 0; Y = pos 0; k = pos 0; p = pos 0; D = pos 1697; TT = pos 848 })
+  pub case-8-short : arcOf 1 200000 0 ≡ pos 970
   pub case-8-refused : elementReply 1 200000 0 ≡ declined 14 0
   pub case-9-read : outcome (readChecks firstEdition sheet9) ≡ passed
   pub case-9-line : readLine firstEdition sheet9 ≡ noCurve

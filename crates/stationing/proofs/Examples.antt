@@ -65,10 +65,10 @@ row = 1 ∷ 2 ∷ 3 ∷ 4 ∷ 5 ∷ 6 ∷ 7 ∷ []
 pub record Examples : Type 0 where
   pub case-1 : stationsIn (caseLine 500000 350000 40000) row .reply ≡ filled 5
   pub case-1-row : stationsIn (caseLine 500000 350000 40000) row .buffer
-      ≡ 319010722 ∷ 359010722 ∷ 620649189 ∷ 660649189 ∷ 879659911 ∷ 6 ∷ 7 ∷ []
+      ≡ 319010720 ∷ 359010720 ∷ 620649187 ∷ 660649187 ∷ 879659907 ∷ 6 ∷ 7 ∷ []
   pub case-1-small : stationsIn (caseLine 500000 350000 40000) (replicate 4 0) .reply ≡ unfilled 16 0
   pub case-2 : stationsIn (caseLine 180991 350000 40000) (replicate 5 0) .reply ≡ filled 5
-  pub case-2-straight : straightAt (caseLine 180991 350000 40000) 0 ≡ pos 1722
+  pub case-2-straight : straightAt (caseLine 180991 350000 40000) 0 ≡ pos 1720
   pub case-3 : stationsIn (caseLine 180990 350000 40000) [] .reply ≡ unfilled 15 0
   pub case-3-row : stationsIn (caseLine 180990 350000 40000) row .buffer ≡ row
   pub case-4 : stationsIn (caseLine 500000 350000 39999) (replicate 5 0) .reply ≡ unfilled 13 1
@@ -94,7 +94,7 @@ pub record Examples : Type 0 where
   pub second-radius : stationsIn (twoCurves (curve1 350000 40000) (curve1 167750 0)) (replicate 9 0) .reply ≡ unfilled 12 2
   pub second-spiral : stationsIn (twoCurves (curve1 350000 40000) (curve1 350000 39999)) (replicate 9 0) .reply ≡ unfilled 13 2
   pub straight-of-1000 : stationsIn (lineOf 0 (1 ∷ []) []) (7 ∷ []) .reply ≡ filled 1
-  pub straight-of-999 : stationsIn (lineOf 1 (181268 ∷ 400000 ∷ []) (curve 178034 350000 40000 ∷ [])) row .reply ≡ unfilled 15 0
+  pub straight-of-999 : stationsIn (lineOf 1 (182719 ∷ 400000 ∷ []) (curve 179442 350000 40000 ∷ [])) row .reply ≡ unfilled 15 0
   pub straights-in-turn : stationsIn (lineOf 1 (180990 ∷ 180990 ∷ []) (curve1 350000 40000 ∷ [])) row .reply ≡ unfilled 15 0
   pub last-straight : stationsIn (lineOf 1 (500000 ∷ 180990 ∷ []) (curve1 350000 40000 ∷ [])) row .reply ≡ unfilled 15 1
 

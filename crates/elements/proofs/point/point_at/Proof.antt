@@ -1,6 +1,6 @@
 -- `point_at`: the products fit, and each offset is the definition's. Assumes nothing.
-use mathlib.Core.Path.{_∙_, ap}
-use Prim.Native.Nat.{_≤_}
+use mathlib.Core.Path.{refl, _∙_, ap}
+use Prim.Native.Nat.{ℕ, _*_, _≤_}
 use lib.IntN.{ℤ, pos, _*ℤ_}
 use native.Mathlib.Nat.{mul-le-mul}
 use native.Mathlib.Omega.{arith}
@@ -10,6 +10,10 @@ use borrow.Author.Needs.{needs}
 use Rattle.elements.proofs.point.point_at.Statement.{statement}
 use Rattle.elements.proofs.point.point_at.Tie as tie
 
+-- A length of the spiral in µm times a ratio.
+product-most : {L l q most : ℕ} → L ≤ 500000 → l ≤ 1000 * L → q ≤ most → l * q ≤ 500000000 * most
+product-most L-most on h = mul-le-mul {n₂ = 500000000} (omega arith) h
+
 angle-to-requires : tie.Need-angle-to-requires
 angle-to-requires c κs = search needs
 
@@ -18,22 +22,26 @@ unit-x-requires c κs = search needs
 
 mul-round : tie.Need-mul-round
 mul-round c =
-    let start = c .before .before in
-    omega (arith, mul-le-mul (let h : start .args .length ≤ 500000000 = omega (arith, start .pre .1, start .pre .3) in h) (c .unit-x .ensures .1))
+    let pre = c .before .before .pre in
+    omega (arith, product-most (pre .1) (pre .3) (c .unit-x .ensures .1))
 
 round-requires : tie.Need-round-requires
-round-requires c κs = search needs
+round-requires c κs =
+    let pre = c .before .before .pre in
+    (omega (arith, product-most (pre .1) (pre .3) (c .unit-x .ensures .1)), omega arith, omega arith, refl)
 
 unit-y-requires : tie.Need-unit-y-requires
 unit-y-requires c κs = search needs
 
 mul-round-2 : tie.Need-mul-round-2
 mul-round-2 c =
-    let start = c .before .before .before .before in
-    omega (arith, mul-le-mul (let h : start .args .length ≤ 500000000 = omega (arith, start .pre .1, start .pre .3) in h) (c .unit-y .ensures .1))
+    let pre = c .before .before .before .before .pre in
+    omega (arith, product-most (pre .1) (pre .3) (c .unit-y .ensures .1))
 
 round-requires-2 : tie.Need-round-requires-2
-round-requires-2 c κs = search needs
+round-requires-2 c κs =
+    let pre = c .before .before .before .before .pre in
+    (omega (arith, product-most (pre .1) (pre .3) (c .unit-y .ensures .1)), omega arith, omega arith, refl)
 
 returns : tie.Need-returns
 unfolding offsetsBy offsetX offsetY

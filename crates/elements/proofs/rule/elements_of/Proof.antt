@@ -1,5 +1,9 @@
 -- `elements_of`: the product (1,000 R + p) × tan fits 64 bits, and the six values are the rule's. Assumes nothing.
-use Prim.Native.Nat.{_+_, _*_}
+use mathlib.Core.Path.{_≡_, refl}
+use Prim.Native.Nat.{ℕ, _+_, _*_, _≤_}
+use lib.IntN.{pos}
+use Rattle.line.specs.Ranges.{CurveInRange}
+use Rattle.elements.specs.WorkingRule.{shiftOf}
 use native.Mathlib.Nat.{mul-le-mul}
 use native.Mathlib.Omega.{arith}
 use Rattle.numbers.proofs.Ranges.{at-most}
@@ -8,6 +12,9 @@ use Rattle.elements.proofs.Computed.{computed-TT, computed-values}
 use borrow.Author.Needs.{needs}
 use Rattle.elements.proofs.rule.elements_of.Statement.{statement}
 use Rattle.elements.proofs.rule.elements_of.Tie as tie
+
+product-most : {A R L p tan : ℕ} → CurveInRange A R L → pos p ≡ shiftOf R L → tan ≤ 2318405749 → (1000 * R + p) * tan ≤ 5083333333 * 2318405749
+product-most {A} {R} {L} ok e h = mul-le-mul {n₂ = 5083333333} (omega (arith, ok .R-most, at-most e (bounds A R L ok .p))) h
 
 spirals-of-requires : tie.Need-spirals-of-requires
 spirals-of-requires c κs = search needs
@@ -23,15 +30,13 @@ tan-half-requires c κs = search needs
 
 mul-round-2 : tie.Need-mul-round-2
 mul-round-2 c =
-    let start = c .before .before .before in
-    let s = c .before .before .spirals-of in
-    let p = at-most (s .ensures .p) (bounds _ _ _ (start .pre .0) .p) in
-    let R = start .pre .0 .R-most in
-    omega
-    (arith, mul-le-mul {n₁ = 1000 * start .args .radius + s .result .shift} {n₂ = 5083333333} (omega arith) (c .tan-half .ensures .1))
+    let ok = c .before .before .before .pre .0 in
+    omega (arith, product-most ok (c .before .before .spirals-of .ensures .p) (c .tan-half .ensures .1))
 
 round-requires : tie.Need-round-requires
-round-requires c κs = search needs
+round-requires c κs =
+    let ok = c .before .before .before .pre .0 in
+    (omega (arith, product-most ok (c .before .before .spirals-of .ensures .p) (c .tan-half .ensures .1)), omega arith, omega arith, refl)
 
 add-t7 : tie.Need-add-t7
 add-t7 c =

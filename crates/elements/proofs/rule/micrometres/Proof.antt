@@ -1,4 +1,5 @@
 -- `micrometres`: the product fits. Assumes nothing.
+use mathlib.Core.Path.{refl}
 use native.Mathlib.Nat.{mul-le-mul}
 use native.Mathlib.Omega.{arith}
 use borrow.Author.Needs.{needs}
@@ -9,7 +10,7 @@ mul-round : tie.Need-mul-round
 mul-round c = omega (arith, mul-le-mul (c .pre .0) (c .pre .1))
 
 round-requires : tie.Need-round-requires
-round-requires c κs = search needs
+round-requires c κs = (omega (arith, mul-le-mul (c .pre .0) (c .pre .1)), omega arith, omega arith, refl)
 
 returns : tie.Need-returns
 returns c = search needs
