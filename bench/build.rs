@@ -6,9 +6,12 @@ use std::path::{Path, PathBuf};
 use std::process::{exit, Command};
 
 /// The calls of the library before, and their names in the bench.
-const BEFORE: [[&str; 2]; 2] = [
+const BEFORE: [[&str; 2]; 5] = [
     ["pokyandi_write", "before_write"],
     ["pokyandi_rewrite", "before_rewrite"],
+    ["pokyandi_stations", "before_stations"],
+    ["pokyandi_peg", "before_peg"],
+    ["pokyandi_elements", "before_elements"],
 ];
 
 const SOURCES: [&str; 3] = ["c/baseline.c", "c/from_points.c", "c/rewrite.c"];

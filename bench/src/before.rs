@@ -1,11 +1,12 @@
 //! The library of the landing before, where POKYANDI_BEFORE named its folder when the
-//! bench was built: what it writes and rewrites.
+//! bench was built: what it writes, rewrites and calculates.
 
 use crate::inputs::{Inputs, Road};
 use crate::job::{keep, Job, Task};
 use crate::measure::{sure, Work};
 use crate::side::Answer;
-use pokyandi::{Reason, Refusal, SHEET_BYTES};
+use pokyandi::{Reason, Refusal, ELEMENT_NUMBERS, PEG_NUMBERS, ROW_NUMBERS, SHEET_BYTES};
+use reference::curve::Curve;
 use std::hint::black_box;
 
 extern "C" {
@@ -22,17 +23,46 @@ extern "C" {
         bytes: *mut u8,
         bytes_room: usize,
     ) -> u64;
+
+    fn before_stations(
+        sheet: *const u8,
+        sheet_bytes: usize,
+        row: *mut u64,
+        row_numbers: usize,
+    ) -> u64;
+
+    fn before_peg(
+        sheet: *const u8,
+        sheet_bytes: usize,
+        station: u64,
+        peg: *mut i64,
+        peg_numbers: usize,
+    ) -> u64;
+
+    fn before_elements(
+        deflection: u32,
+        radius: u32,
+        spiral: u32,
+        numbers: *mut u64,
+        numbers_room: usize,
+    ) -> u64;
 }
 
-/// It keeps the buffer that its calls fill, as a [`crate::side::Side`] does.
+/// It keeps the buffers that its calls fill, as a [`crate::side::Side`] does.
 pub struct Before {
     bytes: [u8; SHEET_BYTES],
+    row: [u64; ROW_NUMBERS],
+    peg: [i64; PEG_NUMBERS],
+    elements: [u64; ELEMENT_NUMBERS],
 }
 
 impl Before {
     pub fn new() -> Before {
         Before {
             bytes: [0; SHEET_BYTES],
+            row: [0; ROW_NUMBERS],
+            peg: [0; PEG_NUMBERS],
+            elements: [0; ELEMENT_NUMBERS],
         }
     }
 
@@ -46,6 +76,21 @@ impl Before {
     pub fn rewrite(&mut self, sheet: &[u8]) -> Answer<&[u8]> {
         let count = rewrite(sheet, &mut self.bytes)?;
         Ok(&self.bytes[..count])
+    }
+
+    fn stations(&mut self, sheet: &[u8]) -> Answer<&[u64]> {
+        let count = stations(sheet, &mut self.row)?;
+        Ok(&self.row[..count])
+    }
+
+    fn peg(&mut self, sheet: &[u8], station: u64) -> Answer<&[i64]> {
+        let count = peg(sheet, station, &mut self.peg)?;
+        Ok(&self.peg[..count])
+    }
+
+    fn elements(&mut self, Curve { a, r, l }: Curve) -> Answer<()> {
+        elements(a, r, l, &mut self.elements)?;
+        Ok(())
     }
 }
 
@@ -63,6 +108,25 @@ fn rewrite(sheet: &[u8], bytes: &mut [u8]) -> Result<usize, Refusal> {
     counted(unsafe { before_rewrite(sheet.as_ptr(), sheet.len(), bytes.as_mut_ptr(), bytes.len()) })
 }
 
+#[inline(never)]
+fn stations(sheet: &[u8], row: &mut [u64]) -> Result<usize, Refusal> {
+    // SAFETY: pointers and lengths are those of slices; the row is borrowed alone.
+    counted(unsafe { before_stations(sheet.as_ptr(), sheet.len(), row.as_mut_ptr(), row.len()) })
+}
+
+#[inline(never)]
+fn peg(sheet: &[u8], station: u64, peg: &mut [i64]) -> Result<usize, Refusal> {
+    let (numbers, room) = (peg.as_mut_ptr(), peg.len());
+    // SAFETY: pointers and lengths are those of slices; the peg is borrowed alone.
+    counted(unsafe { before_peg(sheet.as_ptr(), sheet.len(), station, numbers, room) })
+}
+
+#[inline(never)]
+fn elements(a: u32, r: u32, l: u32, numbers: &mut [u64]) -> Result<usize, Refusal> {
+    // SAFETY: pointer and length are those of a slice that is borrowed alone.
+    counted(unsafe { before_elements(a, r, l, numbers.as_mut_ptr(), numbers.len()) })
+}
+
 fn counted(answer: u64) -> Result<usize, Refusal> {
     let lower = answer as u32;
     match Reason::of((answer >> 32) as u32) {
@@ -74,27 +138,45 @@ fn counted(answer: u64) -> Result<usize, Refusal> {
     }
 }
 
-/// Makes the job's call once with each road, and that `times` times; nothing where
-/// the job does not write.
+/// Makes the job's call once with each input, and that `times` times; nothing where
+/// the job is another call's.
 pub fn work(job: Job, inputs: &Inputs, times: usize) -> Option<Work<'_>> {
-    if !matches!(job.task, Task::Write | Task::Rewrite) {
-        return None;
-    }
     let mut before = Before::new();
-    Some(sure(move || {
-        for _ in 0..times {
-            each_road(job.task, &mut before, job.roads(inputs));
-        }
-    }))
+    match job.task {
+        Task::Write | Task::Rewrite | Task::Stations | Task::Peg => Some(sure(move || {
+            for _ in 0..times {
+                each_road(job.task, &mut before, job.roads(inputs));
+            }
+        })),
+        Task::Elements => Some(sure(move || {
+            for _ in 0..times {
+                each_curve(&mut before, &inputs.curves);
+            }
+        })),
+        _ => None,
+    }
 }
 
 fn each_road(task: Task, before: &mut Before, roads: &[Road]) {
-    for Road { sheet, line, .. } in roads {
+    for Road {
+        sheet,
+        line,
+        station,
+    } in roads
+    {
         let sheet = black_box(&sheet[..]);
         match task {
             Task::Write => keep(before.write(black_box(line))),
             Task::Rewrite => keep(before.rewrite(sheet)),
-            _ => unreachable!("the job writes"),
+            Task::Stations => keep(before.stations(sheet)),
+            Task::Peg => keep(before.peg(sheet, black_box(*station))),
+            _ => unreachable!("the library before is not timed so"),
         }
+    }
+}
+
+fn each_curve(before: &mut Before, curves: &[Curve]) {
+    for curve in curves {
+        keep(before.elements(*black_box(curve)));
     }
 }

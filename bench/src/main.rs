@@ -166,7 +166,7 @@ fn measure_job(job: Job, options: &Options, inputs: &Inputs) -> Result<(), Strin
 }
 
 /// The work of library and reference, of C where it has the job, and of the library
-/// before where there is one and the job writes.
+/// before where there is one and it is timed with the job.
 fn works(job: Job, inputs: &Inputs, times: usize) -> Vec<Work<'_>> {
     let (mut library, mut reference) = (Library::new(), Reference::new());
     let mut works = vec![

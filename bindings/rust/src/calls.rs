@@ -2,8 +2,8 @@
 
 use crate::refusal::{counted, Refusal};
 
-/// The version of this crate, 0.4.0: major × 1,000,000 + minor × 1,000 + patch.
-pub const VERSION: u64 = 4_000;
+/// The version of this crate, 0.5.0: major × 1,000,000 + minor × 1,000 + patch.
+pub const VERSION: u64 = 5_000;
 
 /// Bytes of stack that are enough for every call, with what the dynamic linker
 /// takes when a call first uses memcpy.

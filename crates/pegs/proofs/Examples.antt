@@ -59,6 +59,18 @@ two = behind (curve false 100000 350000 0)
 abbrev three : Line
 three = behind (curve false 100000 400000 50000)
 
+-- A curve to the left whose y at CS is exactly a half over 9,521,588 before its sign.
+abbrev halfWay : Line
+halfWay =
+    record {
+      speed = 70;
+      crossfall = 8;
+      start = 0;
+      count = 1;
+      distances = 2000000 ∷ 2000000 ∷ [];
+      curves = curve true 100000 4375000 500000 ∷ [];
+    }
+
 pub record Examples : Type 0 where
   pub start : pegReply one 0 ≡ plain Straight 0 0
   pub before-TS : pegReply one 319010719 ≡ plain Straight 0 319010719
@@ -85,6 +97,8 @@ pub record Examples : Type 0 where
   pub second-in : pegReply three 876691103 ≡ at SpiralIn 2 (pos 20000000) (pos 19999800) (pos 66666)
   pub second-out : pegReply three 1070616575 ≡ at SpiralOut 2 (pos 30000000) (pos 29998481) (pos 224992)
   pub left-numbers : stationNumbers three 340010720 ≡ pos 1 ∷ pos 1 ∷ pos 20000000 ∷ pos 19999592 ∷ negℤ (pos 95237) ∷ []
+  -- A left curve's y is rounded and then negated.
+  pub left-half : pegReply halfWay 2788695701 ≡ at SpiralOut 1 (pos 500000000) (pos 499836760) (negℤ (pos 9521589))
   -- ---- a line without curves, refused lines, and a peg as numbers
   pub no-curve : fill (pegChecks noCurve 250000000) (stationNumbers noCurve 250000000) (replicate 6 (pos 7)) .reply ≡ filled 5
   pub no-curve-numbers : fill (pegChecks noCurve 250000000) (stationNumbers noCurve 250000000) (replicate 6 (pos 7)) .buffer
@@ -123,6 +137,7 @@ examples =
       second-in = refl;
       second-out = refl;
       left-numbers = refl;
+      left-half = refl;
       no-curve = refl;
       no-curve-numbers = refl;
       sixteen-last = refl;
