@@ -340,15 +340,15 @@ mod tests {
     #[test]
     fn case_1() {
         check_bounds(CASE_1);
-        // 39,986,940 less 39,986,940.749 996 143, and so on.
+        // 39,986,941 less 39,986,940.749 996 143, and so on.
         let expected = [
-            -0.749_996_143,
+            0.250_003_857,
             -0.058_170_206,
-            -0.326_838_444,
+            0.673_161_556,
             0.039_413_808,
             -0.230_644_424,
-            -0.931_612_491,
-            1.632_580_558,
+            1.068_387_509,
+            -2.367_419_442,
         ];
         let found = curve_differences(CASE_1);
         assert!(found.into_iter().zip(expected).all(|(a, b)| close(a, b)));
@@ -431,7 +431,7 @@ mod tests {
         let tt = &record.differences[TT];
         assert_eq!(tt.least.unwrap().0, case_1.min(simple));
         assert_eq!(tt.greatest.unwrap().0, case_1.max(simple));
-        assert_eq!(record.differences[0].least.unwrap().1, CASE_1);
+        assert_eq!(record.differences[0].greatest.unwrap().1, CASE_1);
     }
 
     /// Cases 1, 3 and 7: accepted, refused 15, refused 14; and one refused 12.
@@ -450,14 +450,14 @@ mod tests {
         let counts = [record.accepted, record.refused_14, record.refused_15];
         assert_eq!(counts, [1, 1, 1]);
 
-        // TS lies above by what TT lies below; the end by D and twice TT.
+        // TS lies below by what TT lies above; the end by D and twice TT.
         let (ts, place) = record.station_over_curve.greatest.unwrap();
-        assert!(close(ts, 0.931_612_491));
+        assert!(close(ts, -1.068_387_509));
         assert_eq!((place.index, place.curve_of_station()), (0, 1));
-        let (end, place) = record.end_over_count.greatest.unwrap();
-        assert!(close(end, 1.632_580_558));
+        let (end, place) = record.end_over_count.least.unwrap();
+        assert!(close(end, -2.367_419_442));
         assert_eq!((place.index, place.curve_of_station()), (4, 1));
-        assert!(close(record.station.greatest.unwrap().0, end));
+        assert!(close(record.station.least.unwrap().0, end));
 
         let length = |extreme: Option<(f64, Place)>| extreme.unwrap().0;
         let shortest = length(record.accepted_straight.least);

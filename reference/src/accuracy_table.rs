@@ -182,11 +182,11 @@ mod tests {
         let check = |name: &str, expected: String| {
             assert_eq!(words(&table, name).join(" "), expected);
         };
-        check("k ", format!("30 -0.327 {curve} -0.327 {curve}"));
-        check("D - 2 TT ", format!("1.633 {curve} 1.633 {curve}"));
+        check("k ", format!("30 0.673 {curve} 0.673 {curve}"));
+        check("D - 2 TT ", format!("-2.367 {curve} -2.367 {curve}"));
         check(
             "of curve i, over i ",
-            format!("700 0.701 CS 1 of 1, {curve} 0.932 TS 1 of 1, {curve}"),
+            format!("700 -1.299 CS 1 of 1, {curve} -1.068 TS 1 of 1, {curve}"),
         );
         check(
             "shortest straight accepted ",

@@ -1,5 +1,6 @@
 //! The elements of one curve, in the order and words of document 01, Working
-//! rule. All work is in `i128`, so that no step can overflow.
+//! rule, and of document 02, Nearest, not down. All work is in `i128`, so that no
+//! step can overflow.
 //!
 //! Capital X and Y of the paper are [`Elements::x`] and [`Elements::y`]; the
 //! paper's small x and y are the functions `x_ratio` and `y_ratio`.
@@ -72,18 +73,18 @@ pub fn check_arc(a: u32, r: u32, l: u32) -> Result<(), Refusal> {
     Ok(())
 }
 
-/// All six elements of a curve whose fields are in range (document 01,
-/// Working rule).
+/// All six elements of a curve whose fields are in range (document 01, Working
+/// rule; document 02, Nearest, not down).
 pub fn working_rule(a: u32, r: u32, l: u32) -> Elements {
     let t = spiral_angle(l, r);
     let d = arc(a, r, l);
     let (r, l) = (i128::from(r), i128::from(l));
 
-    let x = quotient(l * x_ratio(t), TO_MICROMETRES);
-    let y = quotient(l * y_ratio(t), TO_MICROMETRES);
-    let k = x - quotient(r * sine(t), TO_MICROMETRES);
-    let p = y - quotient(r * (SCALE - cosine(t)), TO_MICROMETRES);
-    let tt = k + quotient((1_000 * r + p) * tan(half_angle(a)), SCALE);
+    let x = nearest(l * x_ratio(t), TO_MICROMETRES);
+    let y = nearest(l * y_ratio(t), TO_MICROMETRES);
+    let k = x - nearest(r * sine(t), TO_MICROMETRES);
+    let p = y - nearest(r * (SCALE - cosine(t)), TO_MICROMETRES);
+    let tt = k + nearest((1_000 * r + p) * tan(half_angle(a)), SCALE);
     Elements { x, y, k, p, d, tt }
 }
 
@@ -93,6 +94,14 @@ pub fn quotient(upper: i128, lower: i128) -> i128 {
     debug_assert!(upper >= 0, "a quotient of a number below zero: {upper}");
     debug_assert!(lower > 0, "a quotient by a number not above zero: {lower}");
     upper / lower
+}
+
+/// A quotient of numbers not below zero, to the nearest whole number, halves up:
+/// "the last division by 10⁶ in X, Y, the sine and cosine parts of k and p and the
+/// arc, the division by 10⁹ in TT, and the last in peg offsets now go to the
+/// nearest µm, halves up" (document 02, Nearest, not down).
+pub fn nearest(upper: i128, lower: i128) -> i128 {
+    quotient(2 * upper + lower, 2 * lower)
 }
 
 /// Full angle: A × 3,141,592,654 / 648,000 (document 01, Working rule).
@@ -170,10 +179,10 @@ pub fn y_ratio(t: i128) -> i128 {
     quotient(t, 3) - quotient(t3(t), 42)
 }
 
-/// D = R × full angle / 10⁶ − 1,000 × L, which may be below zero (document
-/// 01, Working rule).
+/// D = R × full angle / 10⁶ − 1,000 × L, which may be below zero (document 01,
+/// Working rule; document 02, Nearest, not down).
 pub fn arc(a: u32, r: u32, l: u32) -> i128 {
-    quotient(i128::from(r) * full_angle(a), TO_MICROMETRES) - 1_000 * i128::from(l)
+    nearest(i128::from(r) * full_angle(a), TO_MICROMETRES) - 1_000 * i128::from(l)
 }
 
 /// tan = sine × 10⁹ / cosine (document 01, Working rule).
@@ -188,20 +197,20 @@ mod tests {
     #[test]
     fn case_1() {
         let expected = Elements {
-            x: 39_986_940,
+            x: 39_986_941,
             y: 761_727,
-            k: 19_997_823,
+            k: 19_997_824,
             p: 190_454,
             d: 261_638_467,
-            tt: 180_989_278,
+            tt: 180_989_280,
         };
         assert_eq!(elements(177_764, 350_000, 40_000), Ok(expected));
     }
 
     #[test]
     fn case_6() {
-        assert_eq!(arc(23_574, 350_000, 40_000), 1_491);
-        assert_eq!(elements(23_574, 350_000, 40_000).unwrap().d, 1_491);
+        assert_eq!(arc(23_574, 350_000, 40_000), 1_492);
+        assert_eq!(elements(23_574, 350_000, 40_000).unwrap().d, 1_492);
     }
 
     #[test]
@@ -212,8 +221,8 @@ mod tests {
 
     #[test]
     fn case_8() {
-        assert_eq!(elements(1, 350_000, 0).unwrap().d, 1_696);
-        assert_eq!(arc(1, 200_000, 0), 969);
+        assert_eq!(elements(1, 350_000, 0).unwrap().d, 1_697);
+        assert_eq!(arc(1, 200_000, 0), 970);
         assert_eq!(elements(1, 200_000, 0), refuse(14, 0));
     }
 
@@ -223,6 +232,20 @@ mod tests {
             let found = elements(a, r, 0).unwrap();
             assert_eq!((found.x, found.y, found.k, found.p), (0, 0, 0, 0));
         }
+    }
+
+    #[test]
+    fn nearest_has_halves_up() {
+        let found = [0, 1, 4, 5, 6, 14, 15, 16].map(|upper| nearest(upper, 10));
+        assert_eq!(found, [0, 0, 0, 1, 1, 1, 2, 2]);
+        // An odd divisor leaves no half: 3/7 is below one, 4/7 above.
+        assert_eq!(
+            [0, 3, 4, 10, 11].map(|upper| nearest(upper, 7)),
+            [0, 0, 1, 1, 2]
+        );
+        let [before, half, after] =
+            [499_999, 500_000, 500_001].map(|over| nearest(39_986_940_000_000 + over, 1_000_000));
+        assert_eq!([before, half, after], [39_986_940, 39_986_941, 39_986_941]);
     }
 
     #[test]

@@ -1,8 +1,8 @@
 //! The element under a station of a line, in the words of document 02, Pegs
-//! along the line.
+//! along the line and Nearest, not down.
 
 use crate::curve::Curve;
-use crate::elements::{quotient, spiral_angle, x_ratio, y_ratio, SCALE};
+use crate::elements::{nearest, quotient, spiral_angle, x_ratio, y_ratio, SCALE};
 use crate::lent::fill;
 use crate::line::{Line, LEFT, MOST_CURVES};
 use crate::refusal::{refuse, Refusal};
@@ -132,14 +132,14 @@ fn offsets_of(line: &Line, i: usize, length: u64) -> (i128, i128) {
 
 /// The offsets on a spiral of a right curve, L above 0, at length l in µm from
 /// its outer end: u = l × 10⁶ / L, angle = (u × u / 10⁹) × t / 10⁹, then x and
-/// y by document 01 from that angle, each times l over 10⁹.
+/// y by document 01 from that angle, each times l over 10⁹, to the nearest µm.
 pub fn offsets(Curve { r, l: spiral, .. }: Curve, l: u64) -> (i128, i128) {
     let t = spiral_angle(spiral, r);
     let l = i128::from(l);
     let u = quotient(l * 1_000_000, i128::from(spiral));
     let angle = quotient(quotient(u * u, SCALE) * t, SCALE);
-    let x = quotient(x_ratio(angle) * l, SCALE);
-    let y = quotient(y_ratio(angle) * l, SCALE);
+    let x = nearest(x_ratio(angle) * l, SCALE);
+    let y = nearest(y_ratio(angle) * l, SCALE);
     (x, y)
 }
 
@@ -199,11 +199,11 @@ mod tests {
     use Element::{Arc, SpiralIn, SpiralOut, Straight};
 
     /// Case 1's stations.
-    const TS: u64 = 319_010_722;
-    const SC: u64 = 359_010_722;
-    const CS: u64 = 620_649_189;
-    const ST: u64 = 660_649_189;
-    const END: u64 = 879_659_911;
+    const TS: u64 = 319_010_720;
+    const SC: u64 = 359_010_720;
+    const CS: u64 = 620_649_187;
+    const ST: u64 = 660_649_187;
+    const END: u64 = 879_659_907;
 
     fn found(line: &Line, station: u64) -> (Element, u64, i128, i128) {
         let Peg {
@@ -254,8 +254,8 @@ mod tests {
             (CS - 1, Arc(1), 261_638_466),
             (ST, Straight(1), 0),
             (ST + 1, Straight(1), 1),
-            (END - 1, Straight(1), 219_010_721),
-            (END, Straight(1), 219_010_722),
+            (END - 1, Straight(1), 219_010_719),
+            (END, Straight(1), 219_010_720),
         ] {
             assert_eq!(found(&line, station), (element, length, 0, 0));
             assert_eq!(found(&left(line.clone()), station).2, 0);
@@ -264,22 +264,23 @@ mod tests {
 
     /// The offsets are worked by hand: half of the spiral has u = 5 × 10⁸, a
     /// quarter of t = 57,142,857, so angle 14,285,714, t2 204,081, t3 2,915, t4
-    /// 41; x = 10⁹ − 20,408 = 999,979,592, y = 4,761,904 − 69 = 4,761,835.
+    /// 41; x = 10⁹ − 20,408 = 999,979,592, y = 4,761,904 − 69 = 4,761,835; times 20
+    /// m they are 19,999,591.84 and 95,236.7 µm.
     #[test]
     fn spirals_of_case_1() {
         for (station, element, length, x, y) in [
             (TS, SpiralIn(1), 0, 0, 0),
             (TS + 1, SpiralIn(1), 1, 1, 0),
-            (TS + 20_000_000, SpiralIn(1), 20_000_000, 19_999_591, 95_236),
-            (SC - 1, SpiralIn(1), 39_999_999, 39_986_939, 761_727),
-            (CS, SpiralOut(1), 40_000_000, 39_986_940, 761_727),
-            (CS + 1, SpiralOut(1), 39_999_999, 39_986_939, 761_727),
+            (TS + 20_000_000, SpiralIn(1), 20_000_000, 19_999_592, 95_237),
+            (SC - 1, SpiralIn(1), 39_999_999, 39_986_940, 761_727),
+            (CS, SpiralOut(1), 40_000_000, 39_986_941, 761_727),
+            (CS + 1, SpiralOut(1), 39_999_999, 39_986_940, 761_727),
             (
                 ST - 20_000_000,
                 SpiralOut(1),
                 20_000_000,
-                19_999_591,
-                95_236,
+                19_999_592,
+                95_237,
             ),
             (ST - 1, SpiralOut(1), 1, 1, 0),
         ] {
@@ -353,10 +354,9 @@ mod tests {
     #[test]
     fn roundings_of_the_offsets() {
         let expected = [
-            (367_120_821, 32_801_313),
-            (409_293_131, 45_878_991),
-            (435_821_418, 55_822_928),
-            (485_777_290, 78_863_928),
+            (357_150_872, 30_148_091),
+            (421_771_266, 50_377_789),
+            (443_203_052, 58_853_296),
         ];
         let found = ROUNDED_LENGTHS.map(|length| offsets(ROUNDED_CURVE, length));
         assert_eq!(found, expected);
@@ -403,7 +403,7 @@ mod tests {
                 let (element, _, _, y) = found(&line, (stretch.begin + stretch.end) / 2);
                 let side = |i: usize| if line.sides[i - 1] == LEFT { -1 } else { 1 };
                 match element {
-                    SpiralIn(i) | SpiralOut(i) => assert_eq!(y, side(i) * 95_236),
+                    SpiralIn(i) | SpiralOut(i) => assert_eq!(y, side(i) * 95_237),
                     _ => assert_eq!(y, 0),
                 }
             }
@@ -422,7 +422,7 @@ mod tests {
         for room in [5, 6, 12] {
             let (answer, numbers) = call(&line, CS, room);
             assert_eq!(answer, Ok(5));
-            let expected = [3, 1, 40_000_000, 39_986_940, -761_727];
+            let expected = [3, 1, 40_000_000, 39_986_941, -761_727];
             assert_eq!(numbers[..5], expected);
             assert!(numbers[5..].iter().all(|number| *number == 7));
         }

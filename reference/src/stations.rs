@@ -109,11 +109,11 @@ mod tests {
 
     const MOST: u32 = u32::MAX;
     const CASE_1: [u64; 5] = [
-        319_010_722,
-        359_010_722,
-        620_649_189,
-        660_649_189,
-        879_659_911,
+        319_010_720,
+        359_010_720,
+        620_649_187,
+        660_649_187,
+        879_659_907,
     ];
 
     /// The answer, and the row of `room` numbers after the call; before it,
@@ -155,9 +155,9 @@ mod tests {
     #[test]
     fn cases_2_and_3() {
         let line = with_first_distance(180_991);
-        assert_eq!(straight(&line, 0), 1_722);
+        assert_eq!(straight(&line, 0), 1_720);
         let (count, row) = call(&line, 5);
-        assert_eq!((count, row[0]), (Ok(5), 1_722));
+        assert_eq!((count, row[0]), (Ok(5), 1_720));
         check_refused(&with_first_distance(180_990), 15, 0);
     }
 
@@ -201,7 +201,7 @@ mod tests {
     #[test]
     fn second_curve_follows_the_first() {
         let (count, row) = call(&equal_curves(2), 9);
-        let [tangent, spiral, arc] = [180_989_278, 40_000_000, 261_638_467];
+        let [tangent, spiral, arc] = [180_989_280, 40_000_000, 261_638_467];
         let middle = 400_000_000 - 2 * tangent;
         assert_eq!(count, Ok(9));
         assert_eq!(row[0], 400_000_000 - tangent);
@@ -220,7 +220,7 @@ mod tests {
         assert_eq!(count, Ok(257));
         // All distances, and for each curve its length less two TT.
         let turn = 2 * 40_000_000 + 261_638_467;
-        let end = 65 * 400_000_000 + 64 * turn - 64 * 2 * 180_989_278;
+        let end = 65 * 400_000_000 + 64 * turn - 64 * 2 * 180_989_280;
         assert_eq!(row[256], end);
         assert_eq!(row[257..], [7; 43]);
 

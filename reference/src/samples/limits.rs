@@ -71,7 +71,7 @@ mod tests {
         assert_eq!(least_radius(speed, 8), 167_751);
         assert_eq!(least_spiral(speed, 350_000), 40_000);
         assert_eq!(least_distance(&Line::case_1(), 0), 180_991);
-        assert_eq!(least_radius_of_arc(20_000, 1, 0, 1_000), 206_271);
+        assert_eq!(least_radius_of_arc(20_000, 1, 0, 1_000), 206_168);
     }
 
     #[test]

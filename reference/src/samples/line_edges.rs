@@ -101,8 +101,8 @@ fn whole_spiral_edges() -> Vec<Named<Line>> {
 /// second.
 fn arc_edges() -> Vec<Named<Line>> {
     [
-        (Curve::new(1, 206_271, 0), 0),
-        (Curve::new(1, 206_270, 0), 14),
+        (Curve::new(1, 206_168, 0), 0),
+        (Curve::new(1, 206_167, 0), 14),
         (Curve::new(1, GREATEST_RADIUS, 0), 0),
         (Curve::new(1, GREATEST_RADIUS, GREATEST_SPIRAL), 14),
     ]

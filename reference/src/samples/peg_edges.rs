@@ -15,10 +15,10 @@ use std::collections::BTreeSet;
 pub const BEYOND: [u64; 2] = [1 << 63, u64::MAX];
 
 /// A curve, and lengths on its spirals, µm, where an offset changes if a rounding
-/// is left out: each but those of t3 and t4, which the next ones make of no
-/// account.
+/// is left out or is another: to the nearest in place of down, or down at the last.
+/// To leave out those of t3 and t4 is of no account: the next ones follow.
 pub const ROUNDED_CURVE: Curve = Curve::new(LARGE_DEFLECTION, 511_111, 499_999);
-pub const ROUNDED_LENGTHS: [u64; 4] = [369_757_865, 413_920_011, 442_253_848, 497_293_286];
+pub const ROUNDED_LENGTHS: [u64; 3] = [359_440_799, 427_184_782, 450_233_553];
 
 /// A line, a station and the room that is lent.
 #[derive(Clone, Debug)]
