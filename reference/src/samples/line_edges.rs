@@ -6,6 +6,7 @@ use super::call_edges::{
     range_faults, room_edges, Fault, LARGE_DEFLECTION,
 };
 use super::dice::Dice;
+use super::halves;
 use super::limits::{least_radius, least_radius_of_spiral, least_spiral};
 use super::named::{named, Claim, Named};
 use super::roads::{road_with_straight, shortest_road};
@@ -23,6 +24,7 @@ pub fn edges(dice: &mut Dice) -> Vec<Named<Call>> {
         whole_spiral_edges(),
         arc_edges(),
         straight_edges(dice),
+        halves::lines(),
         vec![
             named("shortest road", Claim::Accepted, shortest_road()),
             named("longest road", Claim::Accepted, longest_road()),
@@ -168,6 +170,7 @@ fn several_faults(dice: &mut Dice) -> Vec<Named<Call>> {
 #[cfg(test)]
 mod tests {
     use super::*;
+    use crate::elements::arc;
 
     #[test]
     fn edges_are_answered_as_claimed() {
@@ -175,5 +178,15 @@ mod tests {
             let answer = edge.sample.answer(Calculator);
             assert!(edge.holds(Calculator.refusals(), &answer), "{edge:?}");
         }
+    }
+
+    #[test]
+    fn arcs_at_the_limit() {
+        let arcs: Vec<i128> = arc_edges()
+            .iter()
+            .map(|edge| edge.sample.curve(1))
+            .map(|Curve { a, r, l }| arc(a, r, l))
+            .collect();
+        assert_eq!(arcs, [1_000, 999, 24_240, 24_240 - 500_000_000]);
     }
 }

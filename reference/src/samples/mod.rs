@@ -5,6 +5,7 @@
 pub mod call;
 pub mod curves;
 pub mod dice;
+pub mod halves;
 pub mod limits;
 pub mod line_edges;
 pub mod lines;

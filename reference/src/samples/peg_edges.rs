@@ -1,8 +1,9 @@
 //! Calls for a peg: the ends of every element and the stations next to them,
-//! lengths on a spiral where the roundings count, and rooms.
+//! lengths on a spiral where the roundings count or a half is left, and rooms.
 
 use super::call_edges::{long_line, longest_road, LARGE_DEFLECTION};
 use super::dice::Dice;
+use super::halves::{BELOW_HALF_LENGTHS, HALF_LENGTHS};
 use super::named::{named, Claim, Named};
 use super::roads::{road, road_with_straight};
 use crate::curve::Curve;
@@ -35,6 +36,7 @@ pub fn edges(dice: &mut Dice) -> Vec<Named<PegCall>> {
         .flat_map(|(name, line)| station_edges(name, &line))
         .collect();
     edges.extend(rounded_lengths());
+    edges.extend(half_lengths());
     edges.extend(room_edges());
     edges
 }
@@ -89,14 +91,35 @@ fn station_edges(name: &str, line: &Line) -> Vec<Named<PegCall>> {
 /// The lengths of [`ROUNDED_LENGTHS`] on both spirals.
 fn rounded_lengths() -> Vec<Named<PegCall>> {
     let line = long_line(40, 8, ROUNDED_CURVE);
-    let stretches = accepted(&line);
-    let [spiral_in, spiral_out] = [stretches[1], stretches[3]];
-    let stations =
-        ROUNDED_LENGTHS.map(|length| [spiral_in.begin + length, spiral_out.end - length]);
-    let edges = stations.into_iter().flatten();
-    edges
-        .map(|station| edge("roundings", &line, station, PEG_NUMBERS, 0))
+    let lengths = ROUNDED_LENGTHS.into_iter();
+    lengths
+        .flat_map(|length| on_both_spirals("roundings", &line, length))
         .collect()
+}
+
+/// The lengths of [`HALF_LENGTHS`] and [`BELOW_HALF_LENGTHS`] on both spirals of a
+/// right and of a left curve, whose y is rounded before it is negated.
+fn half_lengths() -> Vec<Named<PegCall>> {
+    let halves = HALF_LENGTHS.map(|half| ("half", half));
+    let below = BELOW_HALF_LENGTHS.map(|half| ("below a half", half));
+    let mut edges = Vec::new();
+    for (name, (curve, length)) in halves.into_iter().chain(below) {
+        let right = long_line(40, 12, curve);
+        let left = to_the_left(right.clone());
+        for (side, line) in [("right", right), ("left", left)] {
+            let name = format!("{name}, {side} curve {curve}");
+            edges.extend(on_both_spirals(&name, &line, length));
+        }
+    }
+    edges
+}
+
+/// A length on both spirals of a line with one curve.
+fn on_both_spirals(name: &str, line: &Line, length: u64) -> [Named<PegCall>; 2] {
+    let stretches = accepted(line);
+    let [spiral_in, spiral_out] = [stretches[1], stretches[3]];
+    [spiral_in.begin + length, spiral_out.end - length]
+        .map(|station| edge(name, line, station, PEG_NUMBERS, 0))
 }
 
 /// Rooms that are too small, exact, and larger.

@@ -114,7 +114,7 @@ mod tests {
 
     #[test]
     fn roundings() {
-        assert_eq!(rounded(39_986_940, 3), "39.987");
+        assert_eq!(rounded(39_986_941, 3), "39.987");
         assert_eq!(rounded(190_454, 2), "0.19");
         assert_eq!([185_000, 194_999].map(|p| rounded(p, 2)), ["0.19"; 2]);
         assert_eq!([184_999, 195_000].map(|p| rounded(p, 2)), ["0.18", "0.20"]);
@@ -133,6 +133,6 @@ mod tests {
         };
         let wrong = check(&library).unwrap_err();
         assert_eq!(wrong.lines().count(), 6 + 4 * 7);
-        assert!(wrong.starts_with("X is 39996940 um, but 39.987 m is published\n"));
+        assert!(wrong.starts_with("X is 39996941 um, but 39.987 m is published\n"));
     }
 }

@@ -182,19 +182,19 @@ mod tests {
     fn check_case_1(side: &dyn Side) {
         let sheet = sheet_of(&Line::case_1());
         let stations = [
-            319_010_722,
-            359_010_722,
-            620_649_189,
-            660_649_189,
-            879_659_911,
+            319_010_720,
+            359_010_720,
+            620_649_187,
+            660_649_187,
+            879_659_907,
         ];
         let elements = [
-            39_986_940,
+            39_986_941,
             761_727,
-            19_997_823,
+            19_997_824,
             190_454,
             261_638_467,
-            180_989_278,
+            180_989_280,
         ];
 
         let mut row = [7; 6];
@@ -217,8 +217,8 @@ mod tests {
 
         let mut text = [7; 200];
         let length = side.text(&sheet, &mut text).unwrap();
-        assert!(text[..length].starts_with(b"POINT CURVE STATION\nTS 1 319.010722\n"));
-        assert!(text[..length].ends_with(b"END 0 879.659911\n"));
+        assert!(text[..length].starts_with(b"POINT CURVE STATION\nTS 1 319.010720\n"));
+        assert!(text[..length].ends_with(b"END 0 879.659907\n"));
         assert_eq!(text[length], 7);
         assert_eq!(side.text(&sheet, &mut text[..length - 1]), refuse(16, 0));
 
@@ -239,9 +239,9 @@ mod tests {
         let [_, _, cs, _, end] = stations;
         let mut peg = [7; 6];
         assert_eq!(side.peg(&sheet, cs, &mut peg), Ok(5));
-        assert_eq!(peg, [3, 1, 40_000_000, 39_986_940, 761_727, 7]);
+        assert_eq!(peg, [3, 1, 40_000_000, 39_986_941, 761_727, 7]);
         assert_eq!(side.peg(&sheet, end, &mut peg), Ok(5));
-        assert_eq!(peg, [0, 1, 219_010_722, 0, 0, 7]);
+        assert_eq!(peg, [0, 1, 219_010_720, 0, 0, 7]);
         assert_eq!(side.peg(&sheet, end, &mut peg[..4]), refuse(16, 0));
         assert_eq!(side.peg(&sheet, end + 1, &mut peg[..4]), refuse(17, 0));
 

@@ -298,10 +298,10 @@ mod tests {
         }
         let counts = [watched.accepted, watched.refused_14, watched.refused_15];
         assert_eq!(counts, [2, 1, 1]);
-        assert!(close(watched.elements[5].below, -0.931_612_491));
-        assert!(close(watched.stations[0].above, 0.931_612_491));
-        assert!(watched.offsets[0].below <= -0.749_996_143);
-        assert!(close(watched.stations_over[END].above, 1.632_580_558));
+        assert!(close(watched.elements[5].above, 1.068_387_509));
+        assert!(close(watched.stations[0].below, -1.068_387_509));
+        assert!(watched.offsets[0].above >= 0.250_003_856);
+        assert!(close(watched.stations_over[END].below, -2.367_419_442));
         let nearest = |lengths: &Lengths| lengths.nearest.clone().unwrap().0;
         assert!(close(nearest(&watched.refused_arc), -0.204_833_217));
         assert!(close(nearest(&watched.accepted_arc), 261_638.467_230_644));
@@ -317,7 +317,7 @@ mod tests {
         let mut row = [0; 5];
         Reference.stations(&sheet_of(&line), &mut row).unwrap();
         for station in 0..5 {
-            for (moved, holds) in [(698, true), (-698, true), (702, false), (-702, false)] {
+            for (moved, holds) in [(697, true), (-697, true), (703, false), (-703, false)] {
                 let mut row = row;
                 row[station] = row[station].checked_add_signed(moved).unwrap();
                 let seen = Watched::new().see_stations(&line, &row);
@@ -327,7 +327,7 @@ mod tests {
         assert!(Watched::new().see_stations(&line, &row[..4]).is_err());
     }
 
-    /// Case 1's peg at CS: its offsets lie 0.75 and 0.06 µm below the exact ones.
+    /// Case 1's peg at CS: its x lies 0.25 µm above the exact one, its y 0.06 below.
     #[test]
     fn moved_pegs_break_the_claims() {
         let mut line = Line::case_1();
@@ -340,13 +340,13 @@ mod tests {
                 let seen = Watched::new().see_peg(&line, element, 40_000_000, answer);
                 seen.is_ok()
             };
-            let peg = [3, 1, 40_000_000, 39_986_940, y];
+            let peg = [3, 1, 40_000_000, 39_986_941, y];
             assert!(sees(peg));
             for (index, moved, holds) in [
-                (3, 4, true),
-                (3, 5, false),
-                (3, -3, true),
-                (3, -4, false),
+                (3, 3, true),
+                (3, 4, false),
+                (3, -4, true),
+                (3, -5, false),
                 (4, 3, true),
                 (4, -3, true),
                 (4, 5, false),
