@@ -10,13 +10,14 @@
 //! [`lent`] and [`report`], their sums in fractions are in [`exact`]; a line as
 //! numbers is in [`line_numbers`], a sheet as text in [`hexadecimal`]; the samples
 //! are in [`samples`]. How far rule and fractions lie apart is in [`accuracy`],
-//! looked for by [`search`] and printed by [`accuracy_table`]. The station program
-//! is run by [`runner`].
+//! looked for by [`search`] and printed by [`accuracy_table`]; how far the ends of
+//! roads do is in [`drift`]. The station program is run by [`runner`].
 
 pub mod accuracy;
 pub mod accuracy_table;
 pub mod bits;
 pub mod curve;
+pub mod drift;
 pub mod elements;
 pub mod exact;
 pub mod hexadecimal;

@@ -1,8 +1,11 @@
-//! The reference's command line: makes samples and works them, and searches for
-//! large differences between the working rule and the fractions.
+//! The reference's command line: makes samples and works them, searches for large
+//! differences between the working rule and the fractions, and tells the drift of
+//! roads.
 
 use reference::accuracy_table::accuracy_table;
+use reference::drift::drift_table;
 use reference::hexadecimal::{digits_of, lines, read_bytes};
+use reference::line::MOST_CURVES;
 use reference::report::report;
 use reference::samples::station_cases::named_sheets;
 use reference::samples::station_sheets::sample_station_sheets;
@@ -19,6 +22,7 @@ usage: reference station-sheets SEED COUNT
        reference reports
        reference sample-sheets FOLDER
        reference accuracy SEED CURVES LINES
+       reference drift SEED ROADS CURVES
 
 station-sheets
           prints COUNT sample sheets for the station program, one per line: two
@@ -36,6 +40,10 @@ accuracy  works CURVES curves and LINES lines by the working rule and in
           was seen; and of the shortest exact straight and arc that are accepted
           and the longest that are refused 15 and 14. Always the same for the
           same SEED.
+drift     prints how far the ends of mountain roads drift, rule minus exact: of
+          the one of 64 curves among the sheets with a name, and of ROADS random
+          ones of CURVES curves each (1 to 64) the mean, the mean size, the least
+          and the largest. Always the same for the same SEED.
 ";
 
 /// What the arguments ask for.
@@ -52,6 +60,11 @@ enum Request {
         seed: u64,
         curves: usize,
         lines: usize,
+    },
+    Drift {
+        seed: u64,
+        roads: usize,
+        curves: usize,
     },
 }
 
@@ -90,8 +103,18 @@ fn read_arguments(arguments: impl Iterator<Item = OsString>) -> Option<Request> 
             curves: curves.parse().ok()?,
             lines: lines.parse().ok()?,
         }),
+        ["drift", seed, roads, curves] => Some(Request::Drift {
+            seed: seed.parse().ok()?,
+            roads: above_zero(roads)?,
+            curves: above_zero(curves).filter(|curves| *curves <= MOST_CURVES)?,
+        }),
         _ => None,
     }
+}
+
+/// A number above zero.
+fn above_zero(word: &str) -> Option<usize> {
+    word.parse().ok().filter(|number| *number > 0)
 }
 
 /// Does what is asked for.
@@ -107,6 +130,11 @@ fn answer(request: Request) -> io::Result<()> {
             curves,
             lines,
         } => print(accuracy_table(&search(seed, curves, lines)).into_iter()),
+        Request::Drift {
+            seed,
+            roads,
+            curves,
+        } => print(drift_table(seed, roads, curves).into_iter()),
     }
 }
 
@@ -153,6 +181,23 @@ fn report_text(line: &[u8]) -> String {
 #[cfg(test)]
 mod tests {
     use super::*;
+
+    #[test]
+    fn arguments_of_drift() {
+        let is_taken = |line: &str| {
+            let words = line.split(' ').map(OsString::from);
+            read_arguments(words).is_some()
+        };
+        assert!(is_taken("drift 1 1000 60") && is_taken("drift 0 1 64"));
+        for line in [
+            "drift 1 1000",
+            "drift 1 0 60",
+            "drift 1 5 0",
+            "drift 1 5 65",
+        ] {
+            assert!(!is_taken(line), "{line}");
+        }
+    }
 
     #[test]
     fn report_as_text() {

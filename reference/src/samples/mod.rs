@@ -9,6 +9,7 @@ pub mod halves;
 pub mod limits;
 pub mod line_edges;
 pub mod lines;
+pub mod mountain_road;
 pub mod named;
 pub mod peg_edges;
 pub mod point_edges;
@@ -24,7 +25,6 @@ pub mod writer_edges;
 
 mod call_edges;
 mod faults;
-mod mountain_road;
 mod near_limits;
 mod sheet_faults;
 mod station_faults;

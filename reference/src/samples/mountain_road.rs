@@ -1,5 +1,5 @@
-//! A mountain road of 64 curves, as an office would lay it out: bends and
-//! switchbacks to both sides for 40 km/h.
+//! Mountain roads, as an office would lay them out: bends and switchbacks to both
+//! sides for 40 km/h.
 
 use super::dice::Dice;
 use super::limits::{least_deflection, least_distance, least_spiral};
@@ -16,15 +16,19 @@ const START: u32 = 12_340_000;
 /// One degree, seconds.
 const DEGREE: u32 = 3_600;
 
-/// The road: radii of 60 to 200 m in steps of 5 m, spirals in steps of 10 m,
-/// distances in whole cm.
+/// The road of 64 curves among the sheets with a name.
 pub fn mountain_road() -> Line {
-    let mut dice = Dice::new(1);
-    let curves: Vec<Curve> = (0..MOST_CURVES).map(|i| curve(&mut dice, i)).collect();
+    any_mountain_road(&mut Dice::new(1), MOST_CURVES)
+}
+
+/// A road of `n` curves: radii of 60 to 200 m in steps of 5 m, spirals in steps of
+/// 10 m, distances in whole cm.
+pub fn any_mountain_road(dice: &mut Dice, n: usize) -> Line {
+    let curves: Vec<Curve> = (0..n).map(|i| curve(dice, i)).collect();
     let mut line = Line::new(SPEED.v, CROSSFALL, START, &[], &curves);
-    put_sides(&mut dice, &mut line);
-    for i in 0..=MOST_CURVES {
-        line.distances[i] = distance(&mut dice, &line, i);
+    put_sides(dice, &mut line.sides[..n]);
+    for i in 0..=n {
+        line.distances[i] = distance(dice, &line, i);
     }
     line
 }
@@ -59,9 +63,9 @@ fn spiral(r: u32) -> u32 {
 }
 
 /// The road turns from side to side, and once in four goes on to the same one.
-fn put_sides(dice: &mut Dice, line: &mut Line) {
+fn put_sides(dice: &mut Dice, sides: &mut [u32]) {
     let mut left = false;
-    for side in &mut line.sides {
+    for side in sides {
         *side = u32::from(left);
         left ^= !dice.once_in(4);
     }
@@ -88,6 +92,19 @@ mod tests {
         // Between 5 and 20 km long.
         let length = row[256] - 1_000 * u64::from(START);
         assert!((5_000_000_000..20_000_000_000).contains(&length));
+    }
+
+    #[test]
+    fn roads_are_accepted() {
+        let mut dice = Dice::new(1);
+        for n in (0..=MOST_CURVES).chain([60; 20]) {
+            let road = any_mountain_road(&mut dice, n);
+            assert_eq!(stations(&road, &mut [0; 257]), Ok(4 * n + 1));
+            assert!(road.distances[n + 1..]
+                .iter()
+                .all(|distance| *distance == 0));
+            assert!(road.sides[n..].iter().all(|side| *side != LEFT));
+        }
     }
 
     #[test]
