@@ -104,7 +104,7 @@ mod tests {
 
     #[test]
     fn printed() {
-        assert_eq!(decimal(319_010_722, 6), "319.010722");
+        assert_eq!(decimal(319_010_720, 6), "319.010720");
         assert_eq!(decimal(7, 3), "0.007");
         assert_eq!(decimal(0, 6), "0.000000");
     }

@@ -316,8 +316,8 @@ mod tests {
         let line = line.with(pokyandi::line::distance(1), 361_978);
         assert_eq!(
             sentence(&line),
-            "refused 15 at distance 1: the straight is -0.000556 m, under 1 mm, by 361.978 m less \
-             TT 180.989278 m of curve 1 and TT 180.989278 m of curve 2; it takes a distance of 361.980 m at least"
+            "refused 15 at distance 1: the straight is -0.000560 m, under 1 mm, by 361.978 m less \
+             TT 180.989280 m of curve 1 and TT 180.989280 m of curve 2; it takes a distance of 361.980 m at least"
         );
     }
 

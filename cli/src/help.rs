@@ -43,11 +43,11 @@ From a plain text to stations:
     /tmp/line.sheet: written, 21 bytes, 1 curve
     $ pokyandi stations /tmp/line.sheet
     POINT CURVE STATION
-    TS 1 319.010722
-    SC 1 359.010722
-    CS 1 620.649189
-    ST 1 660.649189
-    END 0 879.659911
+    TS 1 319.010720
+    SC 1 359.010720
+    CS 1 620.649187
+    ST 1 660.649187
+    END 0 879.659907
 "
 );
 
@@ -59,9 +59,9 @@ Prints a line for each point of each sheet, in the order of the road: name, numb
 of the curve, station. The end of the line has curve 0. A sheet that is refused
 gets REFUSED, number and place instead, and words on standard error.
 
-  --as metres   319.010722, as the program stations prints it (the usual form)
-  --as km       0+319.010722, kilometres and metres
-  --as estaca   15 + 19.010722, estacas of 20 m and metres
+  --as metres   319.010720, as the program stations prints it (the usual form)
+  --as km       0+319.010720, kilometres and metres
+  --as estaca   15 + 19.010720, estacas of 20 m and metres
   --as csv      sheet,point,curve,station with one heading for all sheets; of a
                 refused one REFUSED, number and place stand for the point
   --list FILE   the sheets are those that FILE names, a line each
@@ -72,11 +72,11 @@ be read does not stop the others.
 
     $ pokyandi stations --as km samples/stations/case-01.sheet
     POINT CURVE STATION
-    TS 1 0+319.010722
-    SC 1 0+359.010722
-    CS 1 0+620.649189
-    ST 1 0+660.649189
-    END 0 0+879.659911
+    TS 1 0+319.010720
+    SC 1 0+359.010720
+    CS 1 0+620.649187
+    ST 1 0+660.649187
+    END 0 0+879.659907
 ";
 
 pub const PEGS: &str = "\
@@ -116,10 +116,10 @@ read does not stop the others. More than 1000000 distances on a line are an erro
          0+200.000000 -     straight        0   200.000000   0.000000   0.000000
          0+250.000000 -     straight        0   250.000000   0.000000   0.000000
          0+300.000000 -     straight        0   300.000000   0.000000   0.000000
-         0+319.010722 TS    spiral-in       1     0.000000   0.000000   0.000000
-         0+350.000000 -     spiral-in       1    30.989278  30.985632   0.354257
-         0+359.010722 SC    arc             1     0.000000   0.000000   0.000000
-         0+400.000000 -     arc             1    40.989278   0.000000   0.000000
+         0+319.010720 TS    spiral-in       1     0.000000   0.000000   0.000000
+         0+350.000000 -     spiral-in       1    30.989280  30.985635   0.354257
+         0+359.010720 SC    arc             1     0.000000   0.000000   0.000000
+         0+400.000000 -     arc             1    40.989280   0.000000   0.000000
 ";
 
 pub const ELEMENTS: &str = "\
@@ -135,10 +135,10 @@ tangents leave of distance i, from ST of curve i to TS of the next.
 
     $ pokyandi elements samples/stations/case-01.sheet
     CURVE                X             Y             k             p             D            TT
-    1            39.986940      0.761727     19.997823      0.190454    261.638467    180.989278
+    1            39.986941      0.761727     19.997824      0.190454    261.638467    180.989280
     STRAIGHT        LENGTH
-    0           319.010722
-    1           219.010722
+    0           319.010720
+    1           219.010720
 ";
 
 pub const CHECK: &str = "\
@@ -152,7 +152,7 @@ formula behind it.
   --list FILE   the sheets are those that FILE names, a line each
 
     $ pokyandi check samples/stations/case-01.sheet samples/stations/case-05-refused.sheet
-    samples/stations/case-01.sheet: fine, 1 curve, end at 0+879.659911 km
+    samples/stations/case-01.sheet: fine, 1 curve, end at 0+879.659907 km
     samples/stations/case-05-refused.sheet: refused 12 at curve 1: the radius is 167.750 m; the least is 167.751 m, by V² / (127 (e + f)) at V = 70 km/h, e = 8 % and f = 0.15
 ";
 

@@ -176,9 +176,10 @@ pub fn longest_spiral_with_arc(found: Curve) -> Option<u64> {
 }
 
 /// The arc that a curve would have without its spirals, µm. One that is refused
-/// as too short is a part of a longer one.
+/// as too short is a part of a longer one, to the nearest µm. The parts are odd in
+/// number: then to round the longer one and the part is to round the part.
 pub fn simple_arc(curve: Curve) -> u64 {
-    const PARTS: u64 = 20;
+    const PARTS: u64 = 21;
     let arc = |radius| {
         let simple = Curve {
             radius,
@@ -188,7 +189,7 @@ pub fn simple_arc(curve: Curve) -> u64 {
         simple.elements().map(|numbers| numbers[element::D])
     };
     let longer = || arc(PARTS * curve.radius).expect("so long an arc is not refused");
-    arc(curve.radius).unwrap_or_else(|_| longer() / PARTS)
+    arc(curve.radius).unwrap_or_else(|_| (longer() + PARTS / 2) / PARTS)
 }
 
 fn has_arc(curve: Curve) -> bool {
@@ -297,12 +298,11 @@ mod tests {
         };
         assert_eq!(longest_spiral_with_arc(flat), None);
         assert_eq!(simple_arc(there), 301_638_467);
-        assert_eq!(simple_arc(flat), 969);
-        let flattest = Curve {
-            radius: radius_range().0,
-            ..flat
-        };
-        assert_eq!(simple_arc(flattest), 96);
+        assert_eq!(simple_arc(flat), 970);
+        // 96.96, 97.484 and 97.503.
+        for (radius, arc) in [(radius_range().0, 97), (20_108, 97), (20_112, 98)] {
+            assert_eq!(simple_arc(Curve { radius, ..flat }), arc);
+        }
         let line = example().with(distance(0), 1);
         assert_eq!(least_distance(&line, 0), Some(180_991));
     }

@@ -273,7 +273,7 @@ pub fn kilometres(station: u64, decimals: usize) -> String {
     format!("{km}+{metres:03}.{rest:0decimals$}")
 }
 
-/// A station of µm in estacas and metres: `15 + 19.010722`.
+/// A station of µm in estacas and metres: `15 + 19.010720`.
 pub fn estacas(um: u64) -> String {
     let (metres, rest) = (um / UM_IN_M, um % UM_IN_M);
     let (estacas, metres) = (metres / M_IN_ESTACA, metres % M_IN_ESTACA);
@@ -448,9 +448,9 @@ mod tests {
         assert_eq!(degrees(177_764), "49°22'44\"");
         assert_eq!(degrees(1), "0°00'01\"");
         assert_eq!(degrees_in_letters(177_764), "49d22m44s");
-        assert_eq!(kilometres(319_010_722, 6), "0+319.010722");
+        assert_eq!(kilometres(319_010_720, 6), "0+319.010720");
         assert_eq!(kilometres(12_040_500, 3), "12+040.500");
-        assert_eq!(estacas(319_010_722), "15 + 19.010722");
+        assert_eq!(estacas(319_010_720), "15 + 19.010720");
         assert_eq!(estacas(12_340_000_000), "617 + 0.000000");
     }
 

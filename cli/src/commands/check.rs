@@ -21,7 +21,7 @@ pub fn run(sheets: Sheets, console: &mut Console) -> io::Result<Status> {
     })
 }
 
-/// `fine, 1 curve, end at 0+879.659911 km`
+/// `fine, 1 curve, end at 0+879.659907 km`
 fn fine(row: &[u64]) -> String {
     let end = row.last().expect("a row has an end");
     let curves = explain::counted(row.len() / POINTS.len(), "curve");

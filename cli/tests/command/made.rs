@@ -79,8 +79,8 @@ fn a_line_that_the_calculator_refuses_is_made_and_explained() {
     let folder = Folder::new();
     let sheet = folder.path("line.sheet");
     let (words, status) = make(&folder, &CASE_1.replace("500000", "180.990m"), &sheet);
-    let why = "line.txt:4: distance 180.990m: refused 15 at distance 0: the straight is 0.000722 m, under 1 mm, \
-               by 180.990 m less TT 180.989278 m of curve 1; it takes a distance of 180.991 m at least\n";
+    let why = "line.txt:4: distance 180.990m: refused 15 at distance 0: the straight is 0.000720 m, under 1 mm, \
+               by 180.990 m less TT 180.989280 m of curve 1; it takes a distance of 180.991 m at least\n";
     let made = "line.sheet: written, 21 bytes, 1 curve; its stations are refused\n";
     assert_eq!((words, status), (format!("{why}{made}"), Some(1)));
     let case_3 = samples().join("stations/case-03.sheet");

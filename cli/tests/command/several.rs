@@ -36,7 +36,7 @@ fn printed(arguments: &[&str], path: &Path) -> String {
     run(&arguments).text()
 }
 
-/// A number of µm in metres, `319.010722`.
+/// A number of µm in metres, `319.010720`.
 pub fn micrometres(metres: &str) -> u64 {
     assert_eq!(metres.find('.'), metres.len().checked_sub(7), "{metres}");
     metres.replace('.', "").parse().unwrap()
