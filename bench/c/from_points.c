@@ -1,4 +1,4 @@
-/* A line from the coordinates of its points, written from document 02's N2 and document 01's checks and working rule: 64-bit whole numbers,
+/* A line from the coordinates of its points, written from document 02's N2 and N4 and document 01's checks and working rule: 64-bit whole numbers,
  * libm's square root and arc tangent as guesses, each made exact, and every check. What the library's call costs in plain C. */
 #include <math.h>
 #include <stdbool.h>
@@ -56,8 +56,11 @@ static inline uint64_t cosine(uint64_t q) {
 
 static inline uint64_t full_angle(uint64_t seconds) { return seconds * PI / 648000; }
 
+/* A quotient to the nearest, halves up; the divisor is even. */
+static inline uint64_t nearest(uint64_t upper, uint64_t lower) { return (upper + lower / 2) / lower; }
+
 /* D, um. */
-static inline int64_t arc(uint64_t a, uint64_t r, uint64_t l) { return (int64_t)(r * full_angle(a) / 1000000 - 1000 * l); }
+static inline int64_t arc(uint64_t a, uint64_t r, uint64_t l) { return (int64_t)(nearest(r * full_angle(a), 1000000) - 1000 * l); }
 
 /* TT, um; without spirals k and p are 0. */
 static inline int64_t tangent(uint64_t a, uint64_t r, uint64_t l) {
@@ -67,10 +70,10 @@ static inline int64_t tangent(uint64_t a, uint64_t r, uint64_t l) {
     if (l > 0) {
         uint64_t t = l * (SCALE / 2) / r;
         uint64_t t2 = t * t / SCALE, t3 = t2 * t / SCALE, t4 = t2 * t2 / SCALE;
-        k = l * (SCALE - t2 / 10 + t4 / 216) / 1000000 - r * sine(t) / 1000000;
-        p = l * (t / 3 - t3 / 42) / 1000000 - r * (SCALE - cosine(t)) / 1000000;
+        k = nearest(l * (SCALE - t2 / 10 + t4 / 216), 1000000) - nearest(r * sine(t), 1000000);
+        p = nearest(l * (t / 3 - t3 / 42), 1000000) - nearest(r * (SCALE - cosine(t)), 1000000);
     }
-    return (int64_t)(k + (1000 * r + p) * tan / SCALE);
+    return (int64_t)(k + nearest((1000 * r + p) * tan, SCALE));
 }
 
 /* ---- distances and turns ---- */
