@@ -8,7 +8,7 @@ use Rattle.elements.specs.WorkingRule.{scale, rounded, spiralX, spiralY, centre
 use Rattle.accuracy.specs.Fractions.{Fraction, nat, _⊗_}
 use Rattle.accuracy.specs.ExactElements.{exactSpiralAngle, exactX, exactY, exactCentre, exactShift, exactArc}
 use Rattle.accuracy.proofs.Nearness.{Near, near-nat, near-difference, near-multiple, quotient-side}
-use Rattle.accuracy.proofs.NearestMicrometre.{rounded-most, rounded-least}
+use Rattle.accuracy.proofs.NearestMicrometre.{rounded-by-parts}
 use Rattle.accuracy.proofs.UnitSpiral.{near-unit-x, near-unit-y}
 use Rattle.accuracy.proofs.Angles.{near-full-angle, spiral, near-spiral-sine, near-spiral-cosine}
 
@@ -17,8 +17,8 @@ pub near-rounded : {s : ℕ} {q : ℤ} {v : Fraction} {x y : ℕ} (m x′ y′ :
     → x + 500 * m ≤ x′ * m → y + 500 * m ≤ y′ * m → Near (s * m) q v x y → Near s (rounded q m) v x′ y′
 near-rounded {q = q} m x′ y′ above e f h =
     record {
-      least = quotient-side m m above (omega (arith, rounded-least q above)) (omega arith) (h .least);
-      most = quotient-side m m above (omega (arith, rounded-most q above)) (omega arith) (h .most);
+      least = quotient-side m m above (omega (arith, rounded-by-parts q above)) (omega arith) (h .least);
+      most = quotient-side m m above (omega (arith, rounded-by-parts q above)) (omega arith) (h .most);
     }
 
 -- A ratio at scale 10⁹ times a length in mm, over 10⁶, is in µm.

@@ -14,28 +14,25 @@ use Rattle.accuracy.specs.Fractions.{whole, _⊖_, _⊘_}
 use Rattle.accuracy.specs.NearestMicrometre.{Nearest, ElementsNearest, OffsetsNearest}
 use Rattle.accuracy.proofs.Parts.{plus, minus, plus-times, minus-times, times-plus, times-minus, sum-parts, difference-parts, down-most, down-least, le-parts, lt-parts, parts-le, parts-lt, eq-parts}
 
--- ---- by parts: twice the rounded number, times m, is twice z but for m at the most
-
-module _ (z : ℤ) {m : ℕ} (above : zero < m) where
-  doubled : plus (pos 2 *ℤ z +ℤ pos m) + 2 * minus z ≡ 2 * plus z + m + minus (pos 2 *ℤ z +ℤ pos m)
-  doubled = omega (arith, sum-parts (pos 2 *ℤ z) (pos m), times-plus 2 z, times-minus 2 z)
-
-  pub rounded-most : 2 * (plus (rounded z m) * m + minus z) ≤ 2 * (plus z + minus (rounded z m) * m) + m
-  unfolding rounded
-  rounded-most =
-      omega (arith, doubled, simp products at (down-most (pos 2 *ℤ z +ℤ pos m) {m = 2 * m} (mul-pos (lit< tt) above)))
-
-  pub rounded-least : 2 * (plus z + minus (rounded z m) * m) < 2 * (plus (rounded z m) * m + minus z) + m
-  unfolding rounded
-  rounded-least =
-      omega (arith, doubled, simp products at (down-least (pos 2 *ℤ z +ℤ pos m) {m = 2 * m} (mul-pos (lit< tt) above)))
-
 -- ---- a number that is the nearest of a quotient, by parts
 
 -- The nearest of z / m lies above it by a half at the most, and below it by less.
-record ByParts (r z : ℤ) (m : ℕ) : Type 0 where
-  over : 2 * (plus r * m + minus z) ≤ 2 * (plus z + minus r * m) + m
-  short : 2 * (plus z + minus r * m) < 2 * (plus r * m + minus z) + m
+pub record ByParts (r z : ℤ) (m : ℕ) : Type 0 where
+  pub over : 2 * (plus r * m + minus z) ≤ 2 * (plus z + minus r * m) + m
+  pub short : 2 * (plus z + minus r * m) < 2 * (plus r * m + minus z) + m
+
+-- So does what the rule rounds.
+pub rounded-by-parts : (z : ℤ) {m : ℕ} → zero < m → ByParts (rounded z m) z m
+unfolding rounded
+rounded-by-parts z {m} above =
+    let n = pos 2 *ℤ z +ℤ pos m in
+    let doubled : plus n + 2 * minus z ≡ 2 * plus z + m + minus n =
+    omega (arith, sum-parts (pos 2 *ℤ z) (pos m), times-plus 2 z, times-minus 2 z) in
+    let two = mul-pos {m = 2} (lit< tt) above in
+    record {
+      over = omega (arith, doubled, simp products at (down-most n two));
+      short = omega (arith, doubled, simp products at (down-least n two));
+    }
 
 ruleset parts = (plus-times, minus-times, one-mul, mul-one)
 
@@ -77,7 +74,7 @@ by-parts {r} {z} {m = suc k} above h =
 
 -- It is the nearest,
 pub rounded-nearest : (z : ℤ) {m : ℕ} → zero < m → Nearest (rounded z m) z m
-rounded-nearest z above = nearest above (record { over = rounded-most z above; short = rounded-least z above })
+rounded-nearest z above = nearest above (rounded-by-parts z above)
 
 -- and nothing else is.
 no-greater : {r s z : ℤ} {m : ℕ} → ByParts r z m → ByParts s z m → plus r + minus s ≤ plus s + minus r
@@ -88,7 +85,7 @@ no-greater {r} {s} {m = m} h k =
 pub nearest-rounded : {r z : ℤ} {m : ℕ} → zero < m → Nearest r z m → r ≡ rounded z m
 nearest-rounded {r} {z} {m} above h =
     let p = by-parts above h in
-    let q = by-parts above (rounded-nearest z above) in
+    let q = rounded-by-parts z above in
     eq-parts r (rounded z m) (omega (arith, no-greater p q, no-greater q p))
 
 -- ---- the elements of a curve and the offsets of a point

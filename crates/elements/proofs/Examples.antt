@@ -36,7 +36,12 @@ pub record Examples : Type 0 where
       ≡ answered (record { X = pos 149995925; Y = pos 824160; k = pos 74999321; p = pos 206042; D = pos 9379409481; TT = pos 7956010884 })
   pub half-TT : elementReply 100000 500000 0
       ≡ answered (record { X = pos 0; Y = pos 0; k = pos 0; p = pos 0; D = pos 242406841; TT = pos 123634594 })
-  -- ---- curves where the rounding of each quotient of the rule counts
+  -- ---- quotients just below a half: X, the cosine's part and the arc; Y, the sine's part and TT
+  pub below-half-X : elementReply 204466 4622096 296860
+      ≡ answered (record { X = pos 296829387; Y = pos 3177468; k = pos 148424899; p = pos 794399; D = pos 4284927352; TT = pos 2647809653 })
+  pub below-half-Y : elementReply 200915 4680251 486484
+      ≡ answered (record { X = pos 486352613; Y = pos 8426222; k = pos 243220103; p = pos 2106755; D = pos 4072377235; TT = pos 2722909570 })
+  -- ---- curves where another rounding of a quotient tells: down or up for the nearest, up or the nearest for down
   pub each-quotient-1 : elementReply 410905 819806 400541
       ≡ answered (record { X = pos 398157270; Y = pos 32477037; k = pos 199872780; p = pos 8136397; D = pos 1232613926; TT = pos 1478215520 })
   pub each-quotient-2 : elementReply 350728 611817 451315
@@ -47,11 +52,14 @@ pub record Examples : Type 0 where
   pub deflection-refused : elementReply 0 19999 500001 ≡ declined 9 0
   pub radius-refused : elementReply 1 19999 500001 ≡ declined 10 0
   pub spiral-refused : elementReply 1 20000 20001 ≡ declined 11 0
-  -- ---- points of spirals: both offsets exactly a half, and one where the rounding of each quotient counts
+  -- ---- points of spirals: their ends and middle; both offsets exactly a half; x, and y, just below; one where another rounding of l over L, the
+  -- square, the angle or the offsets tells
   pub half-way : pointReply 350000 40000 20000000 ≡ answered (record { x = pos 19999592; y = pos 95237 })
   pub inner-end : pointReply 350000 40000 40000000 ≡ answered (record { x = pos 39986941; y = pos 761727 })
   pub longest : pointReply 500000 500000 500000000 ≡ answered (record { x = pos 487644676; y = pos 81845238 })
   pub half-offsets : pointReply 4375000 500000 500000000 ≡ answered (record { x = pos 499836760; y = pos 9521589 })
+  pub below-half-x : pointReply 1531573 334311 163775641 ≡ answered (record { x = pos 163764405; y = pos 1429839 })
+  pub below-half-y : pointReply 4426522 51686 9371139 ≡ answered (record { x = pos 9371139; y = pos 599 })
   pub each-point-quotient : pointReply 511111 499999 439235599 ≡ answered (record { x = pos 433018545; y = pos 54703408 })
   pub no-spiral : pointReply 350000 0 0 ≡ answered (record { x = pos 0; y = pos 0 })
   pub beyond-spiral : pointReply 350000 40000 40000001 ≡ declined 17 0
@@ -86,6 +94,8 @@ examples =
       half-Y = refl;
       half-cosine = refl;
       half-TT = refl;
+      below-half-X = refl;
+      below-half-Y = refl;
       each-quotient-1 = refl;
       each-quotient-2 = refl;
       each-quotient-3 = refl;
@@ -96,6 +106,8 @@ examples =
       inner-end = refl;
       longest = refl;
       half-offsets = refl;
+      below-half-x = refl;
+      below-half-y = refl;
       each-point-quotient = refl;
       no-spiral = refl;
       beyond-spiral = refl;

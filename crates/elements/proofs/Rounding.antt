@@ -1,8 +1,9 @@
--- The rounding of an element's last division: what callers use of it, whichever way it goes. Assumes nothing.
+-- The rounding of the last division of an element or an offset: how it is computed, and what callers use of it. Assumes nothing.
 use mathlib.Core.Path.{_≡_, sym, ap}
 use Prim.Native.Nat.{ℕ, zero, suc, _+_, _*_, _/_, _%_, _≤_, _<_}
 use native.Mathlib.Nat.{mul-pos, mul-div-mul-left, div-lt-iff-lt-mul, div-mul-le-self, le-div-iff-mul-le}
 use native.Mathlib.Omega.{arith}
+use lib.Dec.{lit<}
 use lib.IntN.{ℤ, pos, _-ℤ_}
 use Rattle.numbers.specs.Whole.{Between}
 use Rattle.numbers.proofs.Ranges.{natural, difference-between}
@@ -14,7 +15,7 @@ pub half-added : (n m : ℕ) → m % 2 ≡ 0 → pos ((n + m / 2) / m) ≡ round
 unfolding rounded
 half-added n m even =
     let twice : 2 * (n + m / 2) ≡ 2 * n + m = omega arith in
-    ap pos (rw (sym twice) (sym (mul-div-mul-left (n + m / 2) m (let h : zero < 2 = omega arith in h))))
+    ap pos (rw (sym twice) (sym (mul-div-mul-left (n + m / 2) m (lit< tt))))
 
 -- A number of `most` units and no more is rounded to `most` or less, and not below zero.
 pub rounded-between : {z : ℤ} {least h : ℕ} (m most : ℕ) → zero < m → Between z least h → h ≤ m * most → Between (rounded z m) 0 most

@@ -2,10 +2,10 @@
 -- are X and Y of the element call. Assumes nothing.
 use mathlib.Core.Path.{_≡_, sym, _∙_, ap}
 use Prim.Native.Nat.{ℕ, zero, suc, _+_, _*_, _/_, _≤_, _<_}
-use native.Mathlib.Nat.{mul-le-mul, mul-div-cancel, mul-div-cancel-left, mul-div-mul-left, div-le-of-le-mul, div-lt-iff-lt-mul, mul-assoc, mul-pos, zero-mul}
+use native.Mathlib.Nat.{mul-le-mul, mul-div-cancel, mul-div-cancel-left, mul-div-mul-left, div-le-of-le-mul, mul-assoc}
 use native.Mathlib.Omega.{arith}
 use lib.Dec.{lit<}
-use lib.IntN.{ℤ, pos, negsuc, _*ℤ_}
+use lib.IntN.{ℤ, pos, _*ℤ_, zero-*ℤ}
 use Rattle.numbers.specs.Whole.{Between}
 use Rattle.numbers.proofs.Ranges.{at-most, natural, product-between}
 use borrow.Author.Tests.{le-leb}
@@ -58,16 +58,11 @@ module _ (R L l : ℕ) (r : L ≤ R) (h : l ≤ 1000 * L) (most : L ≤ 500000) 
 
 -- ---- the outer end
 
--- Half a unit of nothing is nothing.
-half-of-nothing : (m : ℕ) → zero < m → (2 * 0 + m) / (2 * m) ≡ 0
-half-of-nothing m above =
-    let below : (2 * 0 + m) / (2 * m) < 1 = div-lt-iff-lt-mul (mul-pos (lit< tt) above) .1 (omega arith) in
-    omega arith
-
 nothing : (z : ℤ) (m : ℕ) → zero < m → rounded (pos 0 *ℤ z) m ≡ pos 0
-unfolding rounded
-nothing (pos n) m above = rw (zero-mul n) (ap pos (half-of-nothing m above))
-nothing (negsuc n) m above = rw (zero-mul (suc n)) (ap pos (half-of-nothing m above))
+nothing z m above =
+    let b = rounded-between m 0 above (natural 0 {least = 0} {most = 0} (omega arith) (omega arith)) (omega arith) in
+    let none : b .value ≡ 0 = omega (arith, b .high) in
+    ap (λ (n : ℤ). rounded n m) (zero-*ℤ z) ∙ b .same ∙ ap pos none
 
 pub at-outer-end : (R L : ℕ) → offsetsBy R L 0 ≡ record { x = pos 0; y = pos 0 }
 unfolding offsetsBy offsetX offsetY

@@ -20,7 +20,7 @@ partTo L l = l * 1000000 / L
 unfoldable pub angleTo : ℕ → ℕ → ℕ → ℕ
 angleTo R L l = partTo L l * partTo L l / scale * spiralAngle R L / scale
 
--- "then x and y by document 01 from that angle, each times l over 10⁹": along the tangent,
+-- "then x and y by document 01 from that angle, each times l over 10⁹", N4: "to the nearest µm, halves up": along the tangent,
 unfoldable pub offsetX : ℕ → ℕ → ℕ → ℤ
 offsetX R L l = rounded (pos l *ℤ unitX (angleTo R L l)) scale
 

@@ -10,7 +10,8 @@ use Rattle.numbers.specs.Whole.{_÷_}
 abbrev pub scale : ℕ
 scale = 1000000000
 
--- The rounding of an element's last division (document 02, N4): "to the nearest µm, halves up". Every other quotient is "rounded down".
+-- The rounding of the last division of an element or a peg's offset (document 02, N4): "to the nearest µm, halves up". Every other quotient is
+-- "rounded down".
 unfoldable pub rounded : ℤ → ℕ → ℤ
 rounded z m = (pos 2 *ℤ z +ℤ pos m) ÷ pos (2 * m)
 

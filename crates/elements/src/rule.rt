@@ -30,7 +30,7 @@ struct Spirals {
     shift: u64,
 }
 
-// The rounding of an element's last division: to the nearest, halves up. The divisor is even.
+// The rounding of the last division of an element or an offset: to the nearest, halves up. The divisor is even.
 pub(crate) fn round(product: u64, divisor: u64) -> u64
     requires { ⌜ (product ≤ 12000000000000000000) × (0 < divisor) × (divisor ≤ scale) × (divisor % 2 ≡ 0) ⌝ }
     ensures { λ r. ⌜ pos r ≡ rounded (pos product) divisor ⌝ }

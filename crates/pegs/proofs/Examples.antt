@@ -1,5 +1,5 @@
--- Pegs of document 01's case 1, and of lines that begin at 1,000 mm with a curve to the left and another behind it, from the definitions. Assumes
--- nothing.
+-- Pegs of document 01's case 1, of lines that begin at 1,000 mm with a curve to the left and another behind it, and at an exact half, from the
+-- definitions. Assumes nothing.
 use mathlib.Core.Path.{_≡_, refl}
 use mathlib.Core.Bool.{Bool, true, false}
 use mathlib.Core.List.{[], _∷_, map}
@@ -97,7 +97,7 @@ pub record Examples : Type 0 where
   pub second-in : pegReply three 876691103 ≡ at SpiralIn 2 (pos 20000000) (pos 19999800) (pos 66666)
   pub second-out : pegReply three 1070616575 ≡ at SpiralOut 2 (pos 30000000) (pos 29998481) (pos 224992)
   pub left-numbers : stationNumbers three 340010720 ≡ pos 1 ∷ pos 1 ∷ pos 20000000 ∷ pos 19999592 ∷ negℤ (pos 95237) ∷ []
-  -- A left curve's y is rounded and then negated.
+  -- ---- a left curve's y is rounded and then negated
   pub left-half : pegReply halfWay 2788695701 ≡ at SpiralOut 1 (pos 500000000) (pos 499836760) (negℤ (pos 9521589))
   -- ---- a line without curves, refused lines, and a peg as numbers
   pub no-curve : fill (pegChecks noCurve 250000000) (stationNumbers noCurve 250000000) (replicate 6 (pos 7)) .reply ≡ filled 5
