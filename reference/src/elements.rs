@@ -110,7 +110,7 @@ pub fn full_angle(a: u32) -> i128 {
 }
 
 /// Half angle: the same over 1,296,000 (document 01, Working rule).
-pub fn half_angle(a: u32) -> i128 {
+pub(crate) fn half_angle(a: u32) -> i128 {
     quotient(i128::from(a) * PI, 1_296_000)
 }
 
@@ -186,7 +186,7 @@ pub fn arc(a: u32, r: u32, l: u32) -> i128 {
 }
 
 /// tan = sine × 10⁹ / cosine (document 01, Working rule).
-pub fn tan(q: i128) -> i128 {
+pub(crate) fn tan(q: i128) -> i128 {
     quotient(sine(q) * SCALE, cosine(q))
 }
 

@@ -5,63 +5,56 @@ use native.Mathlib.Nat.{mul-zero, zero-div}
 use lib.IntN.{pos, negsuc}
 use Rattle.line.specs.Checks.{curveChecks}
 use Rattle.elements.specs.WorkingRule.{rounded, fullAngle, halfAngle, spiralAngle, term, alternating, sineOf, cosineOf, t2, t3, t4, unitX, unitY, spiralX, spiralY, centreOf, shiftOf, arcOf, tanOf, tangentOf}
-use Rattle.refusals.specs.Replying.{answered, declined, reply}
-use Rattle.elements.specs.Answer.{valuesBy, arcCheck, elementChecks, elementReply}
-use Rattle.elements.specs.SpiralPoint.{partTo, angleTo, offsetX, offsetY, offsetsBy, insideCheck, pointChecks, pointReply}
+use Rattle.refusals.specs.Replying.{Reply, answered, declined, reply}
+use Rattle.elements.specs.Answer.{Values, valuesBy, arcCheck, elementChecks, elementReply}
+use Rattle.elements.specs.SpiralPoint.{partTo, angleTo, offsetX, offsetY, Offsets, offsetsBy, insideCheck, pointChecks, pointReply}
 use Rattle.elements.specs.TurnAngle.{turnAngle}
 
--- R 350,000 and L 40,000 in each; case 8 is without spirals.
+-- The elements that are answered, in document 01's order.
+abbrev elements : (X Y k p D TT : ℕ) → Reply Values
+elements X Y k p D TT = answered (record { X = pos X; Y = pos Y; k = pos k; p = pos p; D = pos D; TT = pos TT })
+
+-- The offsets of a point of a spiral.
+abbrev offsets : (x y : ℕ) → Reply Offsets
+offsets x y = answered (record { x = pos x; y = pos y })
+
 pub record Examples : Type 0 where
-  pub case-1 : elementReply 177764 350000 40000
-      ≡ answered (record { X = pos 39986941; Y = pos 761727; k = pos 19997824; p = pos 190454; D = pos 261638467; TT = pos 180989280 })
-  pub case-6 : elementReply 23574 350000 40000
-      ≡ answered (record { X = pos 39986941; Y = pos 761727; k = pos 19997824; p = pos 190454; D = pos 1492; TT = pos 40031265 })
+  pub case-1 : elementReply 177764 350000 40000 ≡ elements 39986941 761727 19997824 190454 261638467 180989280
+  pub case-6 : elementReply 23574 350000 40000 ≡ elements 39986941 761727 19997824 190454 1492 40031265
   pub case-7 : arcOf 23573 350000 40000 ≡ negsuc 204
   pub case-7-refused : elementReply 23573 350000 40000 ≡ declined 14 0
-  pub case-8 : elementReply 1 350000 0
-      ≡ answered (record { X = pos 0; Y = pos 0; k = pos 0; p = pos 0; D = pos 1697; TT = pos 848 })
+  pub case-8 : elementReply 1 350000 0 ≡ elements 0 0 0 0 1697 848
   pub case-8-short : arcOf 1 200000 0 ≡ pos 970
   pub case-8-refused : elementReply 1 200000 0 ≡ declined 14 0
-  pub greatest : elementReply 432000 5000000 0
-      ≡ answered (record { X = pos 0; Y = pos 0; k = pos 0; p = pos 0; D = pos 10471975510; TT = pos 8660254040 })
-  pub widest-spiral : elementReply 432000 500000 500000
-      ≡ answered (record { X = pos 487644676; Y = pos 81845238; k = pos 247931907; p = pos 20636518; D = pos 547197551; TT = pos 1149700809 })
-  pub arc-of-1000 : elementReply 1 206168 0
-      ≡ answered (record { X = pos 0; Y = pos 0; k = pos 0; p = pos 0; D = pos 1000; TT = pos 500 })
+  pub greatest : elementReply 432000 5000000 0 ≡ elements 0 0 0 0 10471975510 8660254040
+  pub widest-spiral : elementReply 432000 500000 500000 ≡ elements 487644676 81845238 247931907 20636518 547197551 1149700809
+  pub arc-of-1000 : elementReply 1 206168 0 ≡ elements 0 0 0 0 1000 500
   pub arc-of-999 : elementReply 1 206167 0 ≡ declined 14 0
   -- ---- quotients that are exactly a half: X, Y, the sine's part and the arc; X, the sine's and the cosine's parts and the arc; the arc and TT
-  pub half-Y : elementReply 431987 4375000 500000
-      ≡ answered (record { X = pos 499836760; Y = pos 9521589; k = pos 249972792; p = pos 2380675; D = pos 8662702833; TT = pos 7831266776 })
-  pub half-cosine : elementReply 431996 4550000 150000
-      ≡ answered (record { X = pos 149995925; Y = pos 824160; k = pos 74999321; p = pos 206042; D = pos 9379409481; TT = pos 7956010884 })
-  pub half-TT : elementReply 100000 500000 0
-      ≡ answered (record { X = pos 0; Y = pos 0; k = pos 0; p = pos 0; D = pos 242406841; TT = pos 123634594 })
+  pub half-Y : elementReply 431987 4375000 500000 ≡ elements 499836760 9521589 249972792 2380675 8662702833 7831266776
+  pub half-cosine : elementReply 431996 4550000 150000 ≡ elements 149995925 824160 74999321 206042 9379409481 7956010884
+  pub half-TT : elementReply 100000 500000 0 ≡ elements 0 0 0 0 242406841 123634594
   -- ---- quotients just below a half: X, the cosine's part and the arc; Y, the sine's part and TT
-  pub below-half-X : elementReply 204466 4622096 296860
-      ≡ answered (record { X = pos 296829387; Y = pos 3177468; k = pos 148424899; p = pos 794399; D = pos 4284927352; TT = pos 2647809653 })
-  pub below-half-Y : elementReply 200915 4680251 486484
-      ≡ answered (record { X = pos 486352613; Y = pos 8426222; k = pos 243220103; p = pos 2106755; D = pos 4072377235; TT = pos 2722909570 })
+  pub below-half-X : elementReply 204466 4622096 296860 ≡ elements 296829387 3177468 148424899 794399 4284927352 2647809653
+  pub below-half-Y : elementReply 200915 4680251 486484 ≡ elements 486352613 8426222 243220103 2106755 4072377235 2722909570
   -- ---- curves where another rounding of a quotient tells: down or up for the nearest, up or the nearest for down
-  pub each-quotient-1 : elementReply 410905 819806 400541
-      ≡ answered (record { X = pos 398157270; Y = pos 32477037; k = pos 199872780; p = pos 8136397; D = pos 1232613926; TT = pos 1478215520 })
-  pub each-quotient-2 : elementReply 350728 611817 451315
-      ≡ answered (record { X = pos 445214121; Y = pos 54947268; k = pos 224638221; p = pos 13802077; D = pos 589004755; TT = pos 937071915 })
-  pub each-quotient-3 : elementReply 307603 687975 479227
-      ≡ answered (record { X = pos 473446403; Y = pos 55154285; k = pos 238647975; p = pos 13847127; D = pos 546751099; TT = pos 886784415 })
+  pub each-quotient-1 : elementReply 410905 819806 400541 ≡ elements 398157270 32477037 199872780 8136397 1232613926 1478215520
+  pub each-quotient-2 : elementReply 350728 611817 451315 ≡ elements 445214121 54947268 224638221 13802077 589004755 937071915
+  pub each-quotient-3 : elementReply 307603 687975 479227 ≡ elements 473446403 55154285 238647975 13847127 546751099 886784415
   -- ---- refusals
   pub deflection-refused : elementReply 0 19999 500001 ≡ declined 9 0
   pub radius-refused : elementReply 1 19999 500001 ≡ declined 10 0
   pub spiral-refused : elementReply 1 20000 20001 ≡ declined 11 0
   -- ---- points of spirals: their ends and middle; both offsets exactly a half; x, and y, just below; one where another rounding of l over L, the
   -- square, the angle or the offsets tells
-  pub half-way : pointReply 350000 40000 20000000 ≡ answered (record { x = pos 19999592; y = pos 95237 })
-  pub inner-end : pointReply 350000 40000 40000000 ≡ answered (record { x = pos 39986941; y = pos 761727 })
-  pub longest : pointReply 500000 500000 500000000 ≡ answered (record { x = pos 487644676; y = pos 81845238 })
-  pub half-offsets : pointReply 4375000 500000 500000000 ≡ answered (record { x = pos 499836760; y = pos 9521589 })
-  pub below-half-x : pointReply 1531573 334311 163775641 ≡ answered (record { x = pos 163764405; y = pos 1429839 })
-  pub below-half-y : pointReply 4426522 51686 9371139 ≡ answered (record { x = pos 9371139; y = pos 599 })
-  pub each-point-quotient : pointReply 511111 499999 439235599 ≡ answered (record { x = pos 433018545; y = pos 54703408 })
-  pub no-spiral : pointReply 350000 0 0 ≡ answered (record { x = pos 0; y = pos 0 })
+  pub half-way : pointReply 350000 40000 20000000 ≡ offsets 19999592 95237
+  pub inner-end : pointReply 350000 40000 40000000 ≡ offsets 39986941 761727
+  pub longest : pointReply 500000 500000 500000000 ≡ offsets 487644676 81845238
+  pub half-offsets : pointReply 4375000 500000 500000000 ≡ offsets 499836760 9521589
+  pub below-half-x : pointReply 1531573 334311 163775641 ≡ offsets 163764405 1429839
+  pub below-half-y : pointReply 4426522 51686 9371139 ≡ offsets 9371139 599
+  pub each-point-quotient : pointReply 511111 499999 439235599 ≡ offsets 433018545 54703408
+  pub no-spiral : pointReply 350000 0 0 ≡ offsets 0 0
   pub beyond-spiral : pointReply 350000 40000 40000001 ≡ declined 17 0
   pub beyond-no-spiral : pointReply 350000 0 1 ≡ declined 17 0
   pub point-radius-refused : pointReply 19999 500001 500001001 ≡ declined 10 0

@@ -1,5 +1,5 @@
--- Document 01's "Working rule" for one curve, sentence by sentence. Angles and ratios are whole numbers at scale 10⁹; the deflection A is in
--- seconds of arc, the radius R and the spiral length L in mm; the elements are in µm. Differences may be negative.
+-- Document 01's "Working rule" for one curve, sentence by sentence, with the rounding of document 02's N4. Angles and ratios are whole numbers at
+-- scale 10⁹; the deflection A is in seconds of arc, the radius R and the spiral length L in mm; the elements are in µm. Differences may be negative.
 use mathlib.Core.Bool.{cond}
 use Prim.Native.Nat.{ℕ, zero, suc, _+_, _-_, _*_, _/_, _%_}
 use lib.Dec.{eqb}

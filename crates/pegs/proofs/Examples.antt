@@ -21,7 +21,7 @@ use Rattle.stationing.specs.RoadTables.{underSpeed, frictionAt, leastSpiralAt, 
 use Rattle.stationing.specs.Stations.{spiralAt, arcAt, tangentAt, tangentBefore, tangentAfter, straightAt, formerST}
 use Rattle.stationing.specs.Answer.{designChecks, designChecksAt, straightCheck, alignmentChecks}
 use Rattle.stationing.specs.LineElements.{elementsFrom, elementsOf, total, lineLength, placedFrom, placedElements}
-use Rattle.stationing.proofs.Examples.{caseLine, noCurve}
+use Rattle.stationing.proofs.Examples.{caseLine, noCurve, lineOf}
 use Rattle.pegs.specs.Pegs.{alongLine, holds, lastStraight, holding, elementUnder, PegValues, pegBy, stationCheck, pegChecks, pegReply}
 use Rattle.pegs.specs.Numbers.{kindNumber, pegNumbers, stationNumbers}
 
@@ -61,15 +61,7 @@ three = behind (curve false 100000 400000 50000)
 
 -- A curve to the left whose y at CS is exactly a half over 9,521,588 before its sign.
 abbrev halfWay : Line
-halfWay =
-    record {
-      speed = 70;
-      crossfall = 8;
-      start = 0;
-      count = 1;
-      distances = 2000000 ∷ 2000000 ∷ [];
-      curves = curve true 100000 4375000 500000 ∷ [];
-    }
+halfWay = lineOf 1 (2000000 ∷ 2000000 ∷ []) (curve true 100000 4375000 500000 ∷ [])
 
 pub record Examples : Type 0 where
   pub start : pegReply one 0 ≡ plain Straight 0 0

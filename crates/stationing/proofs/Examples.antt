@@ -42,7 +42,7 @@ abbrev curve1 : (R L : ℕ) → Curve
 curve1 R L = curve 177764 R L
 
 -- V 70, e 8, start 0, n curves.
-abbrev lineOf : ℕ → List ℕ → List Curve → Line
+abbrev pub lineOf : ℕ → List ℕ → List Curve → Line
 lineOf n distances curves =
     record { speed = 70; crossfall = 8; start = 0; count = n; distances = distances; curves = curves }
 
