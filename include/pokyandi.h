@@ -1,5 +1,6 @@
 /* Pokyandi: the stations of a road alignment from its packed sheet (document 01), the element under a station, its line in numbers, a line
- * from the coordinates of its points, the elements of one curve.
+ * from the coordinates of its points, the elements of one curve,
+ * the height of a profile at a station.
  *
  * Link target/staticlib/libpokyandi.a, which `rt staticlib pokyandi` makes for Linux on x86-64. There is no state; any number of
  * threads may call at once. A call allocates nothing and takes at most POKYANDI_STACK_BYTES of stack.
@@ -10,8 +11,9 @@
  *
  * An answer holds two numbers of 32 bits:
  *   upper 0            done, the lower is the count of entries
- *   upper 1 to 20      refused, the upper is the refusal's number, the lower its place: the index of a distance (0 to n) for 8
- *                      and 15, the number of a curve (1 to n) for 9 to 14, 19 and 20, else 0; of several refusals the first in order
+ *   upper 1 to 23      refused, the upper is the refusal's number, the lower its place: the index of a distance (0 to n) for 8
+ *                      and 15, the number of a curve (1 to n) for 9 to 14, 19 and 20, of a vertex (1 to n) for 21 to 23 (0 for the
+ *                      first grade), else 0; of several refusals the first in order
  */
 #ifndef POKYANDI_H
 #define POKYANDI_H
@@ -23,8 +25,8 @@
 extern "C" {
 #endif
 
-/* The version of this header, 0.5.0: major x 1,000,000 + minor x 1,000 + patch. A later library may have more refusals. */
-#define POKYANDI_VERSION 5000
+/* The version of this header, 0.6.0: major x 1,000,000 + minor x 1,000 + patch. A later library may have more refusals. */
+#define POKYANDI_VERSION 6000
 
 /* The version of the library that is linked. */
 uint64_t pokyandi_version(void);
@@ -36,7 +38,8 @@ enum pokyandi_reason {
     POKYANDI_DONE = 0, POKYANDI_TRUNCATED = 1, POKYANDI_EDITION = 2, POKYANDI_CURVE_COUNT = 3, POKYANDI_SPEED = 4, POKYANDI_CROSSFALL = 5,
     POKYANDI_START = 6, POKYANDI_TRAILING = 7, POKYANDI_DISTANCE = 8, POKYANDI_DEFLECTION = 9, POKYANDI_RADIUS = 10, POKYANDI_SPIRAL = 11,
     POKYANDI_LEAST_RADIUS = 12, POKYANDI_LEAST_SPIRAL = 13, POKYANDI_SHORT_ARC = 14, POKYANDI_SHORT_STRAIGHT = 15, POKYANDI_SMALL_BUFFER = 16,
-    POKYANDI_STATION = 17, POKYANDI_COORDINATE = 18, POKYANDI_NO_TURN = 19, POKYANDI_WIDE_TURN = 20
+    POKYANDI_STATION = 17, POKYANDI_COORDINATE = 18, POKYANDI_NO_TURN = 19, POKYANDI_WIDE_TURN = 20,
+    POKYANDI_VERTICAL_CURVE = 21, POKYANDI_GRADE = 22, POKYANDI_SIGHT = 23
 };
 
 static inline uint32_t pokyandi_refusal(uint64_t answer) { return (uint32_t)(answer >> 32); }
@@ -50,10 +53,11 @@ static inline const char *pokyandi_words(uint32_t refusal) {
     case POKYANDI_TRUNCATED: return "under 7 bytes, or fewer than n curves need";
     case POKYANDI_EDITION: return "edition other than 1";
     case POKYANDI_CURVE_COUNT:
-        return "over 64 curves, fewer than 2 or over 66 points, or other than 5 + 5 x n numbers of a line, 2 of each point and PI";
+        return "over 64 curves or 32 vertices, fewer than 2 or over 66 points, or other than "
+               "5 + 5 x n numbers of a line, 2 of each point and PI, 4 + 3 x n of a profile";
     case POKYANDI_SPEED: return "design speed other than 40, 50, .. 120 km/h";
     case POKYANDI_CROSSFALL: return "crossfall outside 2 to 12 percent";
-    case POKYANDI_START: return "start over 200,000,000 mm";
+    case POKYANDI_START: return "start or vertex outside 0 to 200,000,000 mm, or start height beyond 10,000,000 mm either way";
     case POKYANDI_TRAILING: return "more bytes than n curves need, or a fill bit set";
     case POKYANDI_DISTANCE: return "distance outside 1 to 20,000,000 mm";
     case POKYANDI_DEFLECTION: return "deflection outside 1 to 432,000 seconds, or side other than 0 and 1";
@@ -64,15 +68,19 @@ static inline const char *pokyandi_words(uint32_t refusal) {
     case POKYANDI_SHORT_ARC: return "arc under 1 mm";
     case POKYANDI_SHORT_STRAIGHT: return "straight under 1 mm";
     case POKYANDI_SMALL_BUFFER: return "buffer too small for the answer";
-    case POKYANDI_STATION: return "station below the start of the line or beyond its end";
+    case POKYANDI_STATION: return "station below the start or beyond the end: the line's own, or 200,000,000 mm of a profile";
     case POKYANDI_COORDINATE: return "coordinate beyond 10,000,000 mm either way";
     case POKYANDI_NO_TURN: return "no turn of a second at the PI; leave the point out";
     case POKYANDI_WIDE_TURN: return "turn over 216,000 seconds (60 degrees) at the PI";
+    case POKYANDI_VERTICAL_CURVE:
+        return "vertical curve of odd length, outside 2 to 2,000,000 mm, or reaching past the curve before it or the start";
+    case POKYANDI_GRADE: return "grade beyond 120,000 millionths (12 percent) either way";
+    case POKYANDI_SIGHT: return "vertical curve shorter than the stopping distance needs";
     default: return "unknown refusal";
     }
 }
 
-/* Entries that are enough for every sheet, line, list of points and curve. */
+/* Entries that are enough for every sheet, line, list of points, curve and profile. */
 #define POKYANDI_SHEET_BYTES 706
 #define POKYANDI_LINE_NUMBERS 325
 #define POKYANDI_POINT_NUMBERS 132
@@ -81,6 +89,8 @@ static inline const char *pokyandi_words(uint32_t refusal) {
 #define POKYANDI_TEXT_BYTES 5417
 #define POKYANDI_PEG_NUMBERS 5
 #define POKYANDI_ELEMENT_NUMBERS 6
+#define POKYANDI_PROFILE_NUMBERS 100
+#define POKYANDI_HEIGHT_NUMBERS 1
 
 /* The stations of a sheet in um: TS, SC, CS, ST of each curve in order, then the end. Count: 4 x n + 1. Refusals: 1 to 15, then 16. */
 uint64_t pokyandi_stations(const uint8_t *sheet, size_t sheet_bytes, uint64_t *row, size_t row_numbers);
@@ -134,6 +144,18 @@ uint64_t pokyandi_rewrite(const uint8_t *sheet, size_t sheet_bytes, uint8_t *byt
  * 8 of each distance; point by point 20 and 19; 4 to 6, 10 to 15 of the line so made; then 16. */
 uint64_t pokyandi_from_points(uint32_t speed, uint32_t crossfall, uint32_t start, const int64_t *points, size_t point_numbers,
                               const uint32_t *curves, size_t curve_numbers, uint32_t *line, size_t line_numbers);
+
+/* The height of a profile at a station, in mm, rounded once, down. A profile has four numbers for its head, V (km/h), start (mm), height of
+ * the start (mm) and first grade (millionths), and then three for each vertex: station (mm), the grade that goes out of it (millionths) and
+ * the length of its curve (mm), half of it before the vertex. Count: 1. Refusals: 3 for other than 4 + 3 x n numbers and for more than 32
+ * vertices; 4; 6 for a start or a vertex outside 0 to 200,000,000 or a height beyond 10,000,000 either way; 22, 21 and 23, each vertex by
+ * vertex; 17 for a station below the start or over 200,000,000; then 16. */
+uint64_t pokyandi_height(const int64_t *profile, size_t profile_numbers, uint64_t station, int64_t *height, size_t height_numbers);
+enum { POKYANDI_PROFILE_SPEED = 0, POKYANDI_PROFILE_START = 1, POKYANDI_PROFILE_HEIGHT = 2, POKYANDI_PROFILE_GRADE = 3 };
+enum { POKYANDI_VERTEX_STATION = 0, POKYANDI_VERTEX_GRADE = 1, POKYANDI_VERTEX_LENGTH = 2 };
+
+/* Where the numbers of vertex i begin, 1 to n: its curve's length is profile[pokyandi_vertex(i) + POKYANDI_VERTEX_LENGTH]. */
+static inline size_t pokyandi_vertex(size_t i) { return 3 * i + 1; }
 
 #ifdef __cplusplus
 }

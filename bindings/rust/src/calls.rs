@@ -2,8 +2,8 @@
 
 use crate::refusal::{counted, Refusal};
 
-/// The version of this crate, 0.5.0: major × 1,000,000 + minor × 1,000 + patch.
-pub const VERSION: u64 = 5_000;
+/// The version of this crate, 0.6.0: major × 1,000,000 + minor × 1,000 + patch.
+pub const VERSION: u64 = 6_000;
 
 /// Bytes of stack that are enough for every call, with what the dynamic linker
 /// takes when a call first uses memcpy.
@@ -25,6 +25,10 @@ pub const TEXT_BYTES: usize = 5_417;
 pub const PEG_NUMBERS: usize = 5;
 /// Numbers of a curve's elements.
 pub const ELEMENT_NUMBERS: usize = 6;
+/// Numbers of the longest profile, one of 32 vertices.
+pub const PROFILE_NUMBERS: usize = 100;
+/// Numbers of a height.
+pub const HEIGHT_NUMBERS: usize = 1;
 
 // A slice passes as its pointer and its length.
 extern "C" {
@@ -80,6 +84,13 @@ extern "C" {
         curve_numbers: usize,
         line: *mut u32,
         line_numbers: usize,
+    ) -> u64;
+    fn pokyandi_height(
+        profile: *const i64,
+        profile_numbers: usize,
+        station: u64,
+        height: *mut i64,
+        height_numbers: usize,
     ) -> u64;
 }
 
@@ -200,6 +211,26 @@ pub fn from_points(
             curves.len(),
             line.as_mut_ptr(),
             line.len(),
+        )
+    })
+}
+
+/// The height of a profile at a station, in mm: one number. The profile is, by
+/// the indexes of [`crate::profile`] and [`crate::vertex`], speed, start, start
+/// height and first grade, then station, outgoing grade and curve length of each
+/// vertex: 4 + 3 × n numbers. Lengths and heights are in mm, grades in millionths.
+/// The height is rounded once, down. Refusals: 3 for any other count of numbers
+/// and for more than 32 vertices; 4; 6; 22, 21 and 23, each vertex by vertex; 17
+/// for a station below the start or over 200,000,000; then 16.
+pub fn height(profile: &[i64], station: u64, height: &mut [i64]) -> Result<usize, Refusal> {
+    // SAFETY: pointers and lengths are those of slices; the height is borrowed alone.
+    counted(unsafe {
+        pokyandi_height(
+            profile.as_ptr(),
+            profile.len(),
+            station,
+            height.as_mut_ptr(),
+            height.len(),
         )
     })
 }

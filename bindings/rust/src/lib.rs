@@ -37,10 +37,11 @@ mod calls;
 mod names;
 mod refusal;
 
-pub use calls::{check, elements, from_points, peg, read, rewrite, stations, text, version, write};
+pub use calls::{check, elements, from_points, height, peg, read, rewrite, stations, text};
 pub use calls::{CURVE_NUMBERS, ELEMENT_NUMBERS, LINE_NUMBERS, PEG_NUMBERS};
-pub use calls::{POINT_NUMBERS, ROW_NUMBERS};
+pub use calls::{version, write};
+pub use calls::{HEIGHT_NUMBERS, POINT_NUMBERS, PROFILE_NUMBERS, ROW_NUMBERS};
 pub use calls::{SHEET_BYTES, TEXT_BYTES};
 pub use calls::{STACK_BYTES, VERSION};
-pub use names::{curve, element, line, peg};
+pub use names::{curve, element, line, peg, profile, vertex};
 pub use refusal::{Reason, Refusal};

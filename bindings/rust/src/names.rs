@@ -1,4 +1,4 @@
-//! Names for the numbers of elements, pegs and lines.
+//! Names for the numbers of elements, pegs, lines and profiles.
 
 /// Where the elements of one curve stand.
 pub mod element {
@@ -80,4 +80,34 @@ pub mod curve {
     pub const RIGHT: u32 = 0;
     /// The side of a curve to the left.
     pub const LEFT: u32 = 1;
+}
+
+/// Where the numbers of a profile stand: four for its head, then three for each
+/// vertex.
+pub mod profile {
+    /// Design speed V, km/h.
+    pub const SPEED: usize = 0;
+    /// Start station, mm.
+    pub const START: usize = 1;
+    /// Height of the start, mm.
+    pub const HEIGHT: usize = 2;
+    /// First grade, millionths.
+    pub const GRADE: usize = 3;
+
+    /// Where the numbers of vertex i begin, 1 to n: its grade stands at
+    /// `profile::vertex(i) + vertex::GRADE`.
+    pub const fn vertex(i: usize) -> usize {
+        3 * i + 1
+    }
+}
+
+/// Where the numbers of one vertex stand, from
+/// [`profile::vertex`](crate::profile::vertex) on.
+pub mod vertex {
+    /// Station, mm.
+    pub const STATION: usize = 0;
+    /// Grade that goes out of it, millionths.
+    pub const GRADE: usize = 1;
+    /// Length of its curve, mm.
+    pub const LENGTH: usize = 2;
 }

@@ -9,7 +9,9 @@ pub struct Refusal {
     pub reason: Reason,
     /// The index of a distance (0 to n) for [`Reason::Distance`] and
     /// [`Reason::ShortStraight`], the number of a curve (1 to n) for the reasons
-    /// between them, [`Reason::NoTurn`] and [`Reason::WideTurn`], else 0.
+    /// between them, [`Reason::NoTurn`] and [`Reason::WideTurn`], the number of a
+    /// vertex (1 to n) for [`Reason::VerticalCurve`], [`Reason::Grade`] (0 for the
+    /// first grade) and [`Reason::Sight`], else 0.
     pub place: u32,
 }
 
@@ -37,6 +39,9 @@ pub enum Reason {
     Coordinate,
     NoTurn,
     WideTurn,
+    VerticalCurve,
+    Grade,
+    Sight,
     /// A number that this crate does not know.
     Unknown(u32),
 }
@@ -64,6 +69,9 @@ impl Reason {
         Reason::Coordinate,
         Reason::NoTurn,
         Reason::WideTurn,
+        Reason::VerticalCurve,
+        Reason::Grade,
+        Reason::Sight,
     ];
 
     /// The reason with this number; 0 is none.
@@ -75,7 +83,7 @@ impl Reason {
         }
     }
 
-    /// The number in those documents, 1 to 20, or the unknown one.
+    /// The number in those documents, 1 to 23, or the unknown one.
     pub fn number(self) -> u32 {
         match self {
             Reason::Truncated => 1,
@@ -98,6 +106,9 @@ impl Reason {
             Reason::Coordinate => 18,
             Reason::NoTurn => 19,
             Reason::WideTurn => 20,
+            Reason::VerticalCurve => 21,
+            Reason::Grade => 22,
+            Reason::Sight => 23,
             Reason::Unknown(number) => number,
         }
     }
@@ -108,12 +119,15 @@ impl Reason {
             Reason::Truncated => "under 7 bytes, or fewer than n curves need",
             Reason::Edition => "edition other than 1",
             Reason::CurveCount => {
-                "over 64 curves, fewer than 2 or over 66 points, \
-                 or other than 5 + 5 x n numbers of a line, 2 of each point and PI"
+                "over 64 curves or 32 vertices, fewer than 2 or over 66 points, or other than \
+                 5 + 5 x n numbers of a line, 2 of each point and PI, 4 + 3 x n of a profile"
             }
             Reason::Speed => "design speed other than 40, 50, .. 120 km/h",
             Reason::Crossfall => "crossfall outside 2 to 12 percent",
-            Reason::Start => "start over 200,000,000 mm",
+            Reason::Start => {
+                "start or vertex outside 0 to 200,000,000 mm, \
+                 or start height beyond 10,000,000 mm either way"
+            }
             Reason::Trailing => "more bytes than n curves need, or a fill bit set",
             Reason::Distance => "distance outside 1 to 20,000,000 mm",
             Reason::Deflection => {
@@ -126,10 +140,19 @@ impl Reason {
             Reason::ShortArc => "arc under 1 mm",
             Reason::ShortStraight => "straight under 1 mm",
             Reason::SmallBuffer => "buffer too small for the answer",
-            Reason::Station => "station below the start of the line or beyond its end",
+            Reason::Station => {
+                "station below the start or beyond the end: \
+                 the line's own, or 200,000,000 mm of a profile"
+            }
             Reason::Coordinate => "coordinate beyond 10,000,000 mm either way",
             Reason::NoTurn => "no turn of a second at the PI; leave the point out",
             Reason::WideTurn => "turn over 216,000 seconds (60 degrees) at the PI",
+            Reason::VerticalCurve => {
+                "vertical curve of odd length, outside 2 to 2,000,000 mm, \
+                 or reaching past the curve before it or the start"
+            }
+            Reason::Grade => "grade beyond 120,000 millionths (12 percent) either way",
+            Reason::Sight => "vertical curve shorter than the stopping distance needs",
             Reason::Unknown(_) => "unknown refusal",
         }
     }
@@ -187,7 +210,7 @@ mod tests {
 
     #[test]
     fn an_unknown_refusal_keeps_its_number() {
-        for number in [21, 22, u32::MAX] {
+        for number in [24, 25, u32::MAX] {
             let refusal = counted(u64::from(number) << 32 | 5).unwrap_err();
             assert_eq!(refusal.reason, Reason::Unknown(number));
             let words = format!("refused {number} at place 5: unknown refusal");
