@@ -8,7 +8,7 @@ use lib.IntN.{pos}
 use Rattle.line.specs.Ranges.{CurveInRange}
 use Rattle.elements.specs.WorkingRule.{scale, fullAngle, halfAngle, spiralAngle, sineOf, cosineOf}
 use Rattle.elements.proofs.Bounds.{half-angle-most, spiral-angle-most}
-use Rattle.accuracy.specs.Fractions.{Fraction, whole, nat, _⊗_, _⊘_}
+use Rattle.numbers.specs.Fractions.{Fraction, whole, nat, _⊗_, _⊘_}
 use Rattle.accuracy.specs.ExactElements.{exactPi, exactAngle, exactHalfAngle, exactSpiralAngle, exactSine, exactCosine}
 use Rattle.accuracy.proofs.Parts.{minus}
 use Rattle.accuracy.proofs.Nearness.{Near, loosen, near-nat, near-multiple, near-part, near-down}

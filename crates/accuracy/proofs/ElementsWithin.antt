@@ -7,7 +7,7 @@ use lib.Dec.{lit≤}
 use lib.IntN.{ℤ, pos, _-ℤ_, _*ℤ_}
 use lib.Signed.{_≤ℤ_}
 use Rattle.line.specs.Ranges.{CurveInRange}
-use Rattle.accuracy.specs.Fractions.{Fraction, whole, _⊖_, _⊗_}
+use Rattle.numbers.specs.Fractions.{Fraction, whole, _⊖_, _⊗_}
 use Rattle.accuracy.specs.ExactElements.{documentTerms}
 use Rattle.accuracy.specs.Accuracy.{Within, ElementsWithin}
 use Rattle.accuracy.proofs.Parts.{plus, minus, plus-times, minus-times, times-plus, times-minus, difference-parts, le-parts}

@@ -6,7 +6,7 @@ use native.Mathlib.Omega.{arith}
 use lib.Dec.{lit<}
 use Rattle.line.specs.declared.Line.{Line}
 use Rattle.stationing.proofs.Accepted.{Accepted}
-use Rattle.accuracy.specs.Fractions.{whole, _≺_}
+use Rattle.numbers.specs.Fractions.{whole, _≺_}
 use Rattle.accuracy.specs.ExactStations.{exactSpiralAt, exactArcAt, exactStraightAt, exactFormerST, exactPointsAt, exactEnd}
 use Rattle.accuracy.specs.Accuracy.{tenths, leastStraight, leastArc, InExactOrder}
 use Rattle.accuracy.proofs.Nearness.{near-value}

@@ -17,10 +17,11 @@ use Rattle.line.specs.Checks.{startCheck, headChecks, distanceCheck, curveCheck
 use Rattle.elements.specs.WorkingRule.{rounded, fullAngle, halfAngle, spiralAngle, term, alternating, sineOf, cosineOf, t2, t3, t4, unitX, unitY, spiralX, spiralY, centreOf, shiftOf, arcOf, tanOf, tangentOf}
 use Rattle.elements.specs.Answer.{arcCheck}
 use Rattle.elements.specs.SpiralPoint.{partTo, angleTo, offsetX, offsetY}
-use Rattle.stationing.specs.RoadTables.{underSpeed, frictionAt, leastSpiralAt, radiusServes, spiralServes}
+use Rattle.line.specs.Speeds.{underSpeed}
+use Rattle.stationing.specs.RoadTables.{frictionAt, leastSpiralAt, radiusServes, spiralServes}
 use Rattle.stationing.specs.Stations.{spiralAt, arcAt, tangentAt, tangentBefore, tangentAfter, straightAt, formerST, pointsAt, endOf, curveStations, stationsOf, stationRow}
 use Rattle.stationing.specs.Answer.{designChecks, designChecksAt, straightCheck, alignmentChecks, stationsIn}
-use Rattle.accuracy.specs.Fractions.{Fraction, whole, nat, _⊕_, _⊖_, _⊗_, _↑_, _⊘_, over, ratio, _≼_, _≺_, _≈_}
+use Rattle.numbers.specs.Fractions.{Fraction, whole, nat, _⊕_, _⊖_, _⊗_, _↑_, _⊘_, over, ratio, _≼_, _≺_, _≈_}
 use Rattle.accuracy.specs.ExactOffsets.{exactAngleTo, exactOffsetX, exactOffsetY, OffsetsWithin}
 use Rattle.accuracy.specs.ExactElements.{exactPi, exactAngle, exactHalfAngle, exactSpiralAngle, alternatingSum, factorial, exactSine, exactCosine, documentTerms, exactX, exactY, exactCentre, exactShift, exactArc, exactTan, exactTangent}
 use Rattle.accuracy.specs.ExactStations.{exactSpiralAt, exactArcAt, exactTangentAt, exactTangentBefore, exactTangentAfter, exactStraightAt, exactFormerST, exactPointsAt, exactEnd}

@@ -8,7 +8,7 @@ use lib.IntN.{ℤ, pos, negsuc, _*ℤ_}
 use lib.Signed.{leZ}
 use borrow.Author.Tests.{leb-false}
 use Rattle.numbers.proofs.Products.{products}
-use Rattle.accuracy.specs.Fractions.{Fraction, whole, _⊕_, _⊘_, _≼_, _≺_}
+use Rattle.numbers.specs.Fractions.{Fraction, whole, _⊕_, _⊘_, _≼_, _≺_}
 use Rattle.accuracy.specs.Accuracy.{tenths}
 use Rattle.accuracy.proofs.Parts.{plus, minus, plus-times, minus-times, no-minus, le-parts, lt-parts, parts-lt}
 use Rattle.accuracy.proofs.Nearness.{Near, sum-top}

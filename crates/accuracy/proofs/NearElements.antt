@@ -5,7 +5,7 @@ use lib.Dec.{lit<}
 use lib.IntN.{ℤ, pos, _*ℤ_}
 use Rattle.line.specs.Ranges.{CurveInRange}
 use Rattle.elements.specs.WorkingRule.{scale, rounded, spiralX, spiralY, centreOf, shiftOf, arcOf}
-use Rattle.accuracy.specs.Fractions.{Fraction, nat, _⊗_}
+use Rattle.numbers.specs.Fractions.{Fraction, nat, _⊗_}
 use Rattle.accuracy.specs.ExactElements.{exactSpiralAngle, exactX, exactY, exactCentre, exactShift, exactArc}
 use Rattle.accuracy.proofs.Nearness.{Near, near-nat, near-difference, near-multiple, quotient-side}
 use Rattle.accuracy.proofs.NearestMicrometre.{rounded-by-parts}

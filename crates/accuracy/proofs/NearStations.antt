@@ -10,7 +10,7 @@ use Rattle.line.specs.Checks.{distanceAt, curveAt}
 use Rattle.line.specs.Ranges.{LineInRange}
 use Rattle.stationing.specs.Stations.{spiralAt, arcAt, tangentAt, tangentBefore, tangentAfter, straightAt, formerST, pointsAt, endOf}
 use Rattle.stationing.proofs.StraightSteps.{after-inside, after-end}
-use Rattle.accuracy.specs.Fractions.{nat}
+use Rattle.numbers.specs.Fractions.{nat}
 use Rattle.accuracy.specs.ExactStations.{exactSpiralAt, exactArcAt, exactTangentAt, exactTangentBefore, exactTangentAfter, exactStraightAt, exactFormerST, exactPointsAt, exactEnd}
 use Rattle.accuracy.proofs.Nearness.{Near, loosen, near-nat, near-sum, near-difference}
 use Rattle.accuracy.proofs.NearElements.{near-D}

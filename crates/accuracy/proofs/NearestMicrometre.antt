@@ -10,7 +10,7 @@ use lib.Signed.{_≤ℤ_, _<ℤ_}
 use Rattle.numbers.proofs.Products.{products}
 use Rattle.elements.specs.WorkingRule.{rounded, spiralX, spiralY, centreOf, shiftOf, arcOf, tangentOf}
 use Rattle.elements.specs.SpiralPoint.{offsetX, offsetY}
-use Rattle.accuracy.specs.Fractions.{whole, _⊖_, _⊘_}
+use Rattle.numbers.specs.Fractions.{whole, _⊖_, _⊘_}
 use Rattle.accuracy.specs.NearestMicrometre.{Nearest, ElementsNearest, OffsetsNearest}
 use Rattle.accuracy.proofs.Parts.{plus, minus, plus-times, minus-times, times-plus, times-minus, sum-parts, difference-parts, down-most, down-least, le-parts, lt-parts, parts-le, parts-lt, eq-parts}
 

@@ -7,7 +7,7 @@ use native.Mathlib.Omega.{arith}
 use lib.IntN.{ℤ, pos, _+ℤ_, _-ℤ_, _*ℤ_}
 use Rattle.numbers.specs.Whole.{down, Between}
 use Rattle.numbers.proofs.Products.{products}
-use Rattle.accuracy.specs.Fractions.{Fraction, whole, nat, _⊕_, _⊖_, _⊗_, _⊘_}
+use Rattle.numbers.specs.Fractions.{Fraction, whole, nat, _⊕_, _⊖_, _⊗_, _⊘_}
 use Rattle.accuracy.proofs.Parts.{plus, minus, plus-times, minus-times, times-plus, times-minus, sum-parts, difference-parts, down-most, down-least, as-pos}
 
 -- One side of nearness: a number with the parts a1 and a2 is at most s times the fraction with u1 and u2 over d, and x thousandths of a unit.

@@ -18,7 +18,7 @@ use Rattle.line.proofs.InRange.{curve-in-range}
 use Rattle.elements.specs.WorkingRule.{scale, rounded}
 use Rattle.elements.specs.SpiralPoint.{partTo, angleTo, offsetX, offsetY, Offsets, offsetsBy, insideCheck, pointChecks, pointReply}
 use Rattle.elements.proofs.SpiralPoints.{part-most, at-outer-end}
-use Rattle.accuracy.specs.Fractions.{Fraction, whole, nat, _⊗_, _↑_, _⊘_}
+use Rattle.numbers.specs.Fractions.{Fraction, whole, nat, _⊗_, _↑_, _⊘_}
 use Rattle.accuracy.specs.ExactElements.{exactSpiralAngle, exactUnitX, exactUnitY}
 use Rattle.accuracy.specs.Accuracy.{Within}
 use Rattle.accuracy.specs.ExactOffsets.{exactAngleTo, exactOffsetX, exactOffsetY, offsetTolerance, OffsetsWithin}

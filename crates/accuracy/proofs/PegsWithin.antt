@@ -14,7 +14,7 @@ use Rattle.stationing.specs.Answer.{alignmentChecks}
 use Rattle.stationing.proofs.Accepted.{Accepted, accepted}
 use Rattle.pegs.specs.Pegs.{sided, PegValues, pegChecks, pegReply}
 use Rattle.pegs.proofs.PegsOfALine.{PegOf, on-a-straight, on-an-arc, on-a-spiral-in, on-a-spiral-out, found-peg}
-use Rattle.accuracy.specs.Fractions.{Fraction, nat}
+use Rattle.numbers.specs.Fractions.{Fraction, nat}
 use Rattle.accuracy.specs.Accuracy.{Within}
 use Rattle.accuracy.specs.ExactOffsets.{offsetTolerance, exactSided, PegWithin}
 use Rattle.accuracy.proofs.OffsetsWithin.{offsetError, OffsetsNear, offsets-near}

@@ -8,7 +8,7 @@ use lib.Dec.{lit<}
 use lib.IntN.{pos}
 use Rattle.numbers.proofs.Products.{products}
 use Rattle.elements.specs.WorkingRule.{scale, term, alternating}
-use Rattle.accuracy.specs.Fractions.{Fraction, _⊗_, _↑_, _⊘_}
+use Rattle.numbers.specs.Fractions.{Fraction, _⊗_, _↑_, _⊘_}
 use Rattle.accuracy.specs.ExactElements.{alternatingSum, factorial}
 use Rattle.accuracy.proofs.Parts.{plus, minus, as-pos}
 use Rattle.accuracy.proofs.Nearness.{Near, Same}

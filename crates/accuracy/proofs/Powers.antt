@@ -7,7 +7,7 @@ use native.Mathlib.Omega.{arith}
 use lib.Dec.{lit<}
 use lib.IntN.{pos}
 use Rattle.numbers.proofs.Products.{products}
-use Rattle.accuracy.specs.Fractions.{Fraction, whole, _⊗_, _↑_, _⊘_}
+use Rattle.numbers.specs.Fractions.{Fraction, whole, _⊗_, _↑_, _⊘_}
 use Rattle.accuracy.specs.ExactElements.{factorial}
 use Rattle.accuracy.proofs.Parts.{plus, minus, as-pos}
 use Rattle.accuracy.proofs.Nearness.{Same}

@@ -6,7 +6,7 @@ use native.Mathlib.Omega.{arith}
 use lib.IntN.{ℤ, pos, negsuc, _*ℤ_}
 use Rattle.numbers.proofs.Products.{products}
 use Rattle.elements.specs.WorkingRule.{scale}
-use Rattle.accuracy.specs.Fractions.{Fraction, whole, nat, _⊗_, over, ratio}
+use Rattle.numbers.specs.Fractions.{Fraction, whole, nat, _⊗_, over, ratio}
 use Rattle.accuracy.proofs.Parts.{plus, minus, plus-times, minus-times, no-minus}
 use Rattle.accuracy.proofs.Nearness.{Side, Near, near-of}
 use Rattle.accuracy.proofs.Powers.{part-top, part-under}

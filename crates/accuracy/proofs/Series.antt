@@ -9,7 +9,7 @@ use lib.Dec.{eqb}
 use lib.IntN.{ℤ, pos, _+ℤ_, _-ℤ_}
 use Rattle.numbers.proofs.Products.{products}
 use Rattle.elements.specs.WorkingRule.{scale, alternating}
-use Rattle.accuracy.specs.Fractions.{Fraction, _⊕_, _⊖_}
+use Rattle.numbers.specs.Fractions.{Fraction, _⊕_, _⊖_}
 use Rattle.accuracy.specs.ExactElements.{alternatingSum}
 use Rattle.accuracy.proofs.Parts.{plus, minus}
 use Rattle.accuracy.proofs.Nearness.{Side, Near, difference-top, sum-top, near-nat, near-sum, near-difference}

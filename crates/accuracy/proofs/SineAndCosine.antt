@@ -4,7 +4,7 @@ use Prim.Native.Nat.{ℕ, _+_, _*_, _/_, _≤_}
 use native.Mathlib.Omega.{arith}
 use lib.Dec.{lit≤}
 use Rattle.elements.specs.WorkingRule.{scale, sineDivisor, cosineDivisor, sineOf, cosineOf}
-use Rattle.accuracy.specs.Fractions.{Fraction, whole, nat, _↑_}
+use Rattle.numbers.specs.Fractions.{Fraction, whole, nat, _↑_}
 use Rattle.accuracy.specs.ExactElements.{factorial, exactSine, exactCosine}
 use Rattle.accuracy.proofs.Nearness.{Near, near-nat}
 use Rattle.accuracy.proofs.Powers.{over-one, power-one}

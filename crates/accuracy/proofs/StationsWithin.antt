@@ -7,7 +7,7 @@ use lib.IntN.{ℤ, pos}
 use Rattle.line.specs.declared.Line.{Line}
 use Rattle.line.specs.Ranges.{LineInRange}
 use Rattle.orders.proofs.RowNumbers.{RowNumbers}
-use Rattle.accuracy.specs.Fractions.{Fraction}
+use Rattle.numbers.specs.Fractions.{Fraction}
 use Rattle.accuracy.specs.Accuracy.{Within, RowWithin}
 use Rattle.accuracy.proofs.Nearness.{Near}
 use Rattle.accuracy.proofs.ElementsWithin.{within}

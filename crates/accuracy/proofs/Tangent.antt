@@ -12,7 +12,7 @@ use Rattle.line.specs.Ranges.{CurveInRange}
 use Rattle.elements.specs.WorkingRule.{scale, halfAngle, sineOf, cosineOf, shiftOf, tanOf, tangentOf}
 use Rattle.elements.proofs.SineAndCosine.{sine-between, square-most}
 use Rattle.elements.proofs.Bounds.{bounds, half-angle-most}
-use Rattle.accuracy.specs.Fractions.{Fraction, nat, _⊕_}
+use Rattle.numbers.specs.Fractions.{Fraction, nat, _⊕_}
 use Rattle.accuracy.specs.ExactElements.{exactHalfAngle, exactSine, exactCosine, exactShift, exactTan, exactTangent}
 use Rattle.accuracy.proofs.Parts.{plus, no-minus}
 use Rattle.accuracy.proofs.Nearness.{Near, near-value, near-nat, near-sum, near-product}

@@ -8,7 +8,7 @@ use lib.Dec.{lit<}
 use lib.IntN.{ℤ, pos, negsuc}
 use Rattle.numbers.proofs.Products.{products}
 use Rattle.elements.specs.WorkingRule.{scale}
-use Rattle.accuracy.specs.Fractions.{Fraction, _⊗_, _↑_, _⊘_}
+use Rattle.numbers.specs.Fractions.{Fraction, _⊗_, _↑_, _⊘_}
 use Rattle.accuracy.proofs.Parts.{plus, minus, as-pos}
 use Rattle.accuracy.proofs.Nearness.{Near, Same, near-same, near-part, near-down, near-product}
 use Rattle.accuracy.proofs.Powers.{part-top, power-sum}

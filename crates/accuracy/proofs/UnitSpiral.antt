@@ -3,7 +3,7 @@ use Prim.Native.Nat.{ℕ, _+_}
 use native.Mathlib.Omega.{arith}
 use lib.Dec.{lit<}
 use Rattle.elements.specs.WorkingRule.{scale, t2, t3, t4, unitX, unitY}
-use Rattle.accuracy.specs.Fractions.{Fraction, _↑_}
+use Rattle.numbers.specs.Fractions.{Fraction, _↑_}
 use Rattle.accuracy.specs.ExactElements.{exactUnitX, exactUnitY}
 use Rattle.accuracy.proofs.Nearness.{Near, loosen, near-nat, near-sum, near-difference}
 use Rattle.accuracy.proofs.Powers.{power-one}

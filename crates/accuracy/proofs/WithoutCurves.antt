@@ -10,7 +10,7 @@ use lib.ListN.{getD}
 use Rattle.refusals.specs.Filling.{filled}
 use Rattle.line.specs.declared.Line.{Line}
 use Rattle.stationing.specs.Answer.{stationsIn}
-use Rattle.accuracy.specs.Fractions.{Fraction, whole, nat, _⊖_, _⊗_, _≼_, _≈_}
+use Rattle.numbers.specs.Fractions.{Fraction, whole, nat, _⊖_, _⊗_, _≼_, _≈_}
 use Rattle.accuracy.specs.ExactElements.{documentTerms}
 use Rattle.accuracy.specs.ExactStations.{exactEnd}
 use Rattle.accuracy.specs.Accuracy.{Within, tolerance}

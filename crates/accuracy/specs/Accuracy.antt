@@ -7,7 +7,7 @@ use lib.ListN.{getD}
 use Rattle.refusals.specs.Filling.{filled, unfilled, Fill}
 use Rattle.line.specs.declared.Line.{Line}
 use Rattle.elements.specs.WorkingRule.{spiralX, spiralY, centreOf, shiftOf, arcOf, tangentOf}
-use Rattle.accuracy.specs.Fractions.{Fraction, whole, nat, _⊖_, _⊗_, _⊘_, _≼_, _≺_}
+use Rattle.numbers.specs.Fractions.{Fraction, whole, nat, _⊖_, _⊗_, _⊘_, _≼_, _≺_}
 use Rattle.accuracy.specs.ExactElements.{exactX, exactY, exactCentre, exactShift, exactArc, exactTangent}
 use Rattle.accuracy.specs.ExactStations.{exactArcAt, exactStraightAt, exactFormerST, exactPointsAt, exactEnd}
 

@@ -3,7 +3,7 @@
 use mathlib.Core.Bool.{cond}
 use Prim.Native.Nat.{ℕ, zero, suc, _+_, _*_, _%_}
 use lib.Dec.{eqb}
-use Rattle.accuracy.specs.Fractions.{Fraction, nat, _⊕_, _⊖_, _⊗_, _↑_, _⊘_, ratio}
+use Rattle.numbers.specs.Fractions.{Fraction, nat, _⊕_, _⊖_, _⊗_, _↑_, _⊘_, ratio}
 
 -- "π is 3,141,592,653,589,793 / 10¹⁵"
 unfoldable pub exactPi : Fraction

@@ -4,7 +4,7 @@ use mathlib.Core.Bool.{Bool, true, false}
 use Prim.Native.Nat.{ℕ, _-_, _*_}
 use lib.IntN.{natAbs}
 use Rattle.elements.specs.SpiralPoint.{offsetX, offsetY}
-use Rattle.accuracy.specs.Fractions.{Fraction, nat, _⊖_, _⊗_, _↑_, _⊘_}
+use Rattle.numbers.specs.Fractions.{Fraction, nat, _⊖_, _⊗_, _↑_, _⊘_}
 use Rattle.accuracy.specs.ExactElements.{exactUnitX, exactUnitY}
 use Rattle.accuracy.specs.Accuracy.{Within}
 use Rattle.line.specs.declared.Curve.{Curve}

@@ -5,7 +5,7 @@ use Prim.Native.Nat.{ℕ, zero, suc}
 use lib.Dec.{ltb}
 use Rattle.line.specs.declared.Line.{Line}
 use Rattle.line.specs.Checks.{distanceAt, curveAt}
-use Rattle.accuracy.specs.Fractions.{Fraction, nat, _⊕_, _⊖_}
+use Rattle.numbers.specs.Fractions.{Fraction, nat, _⊕_, _⊖_}
 use Rattle.accuracy.specs.ExactElements.{exactArc, exactTangent}
 
 -- L, D and TT of the curve at entry i.

@@ -1,5 +1,4 @@
 -- What the laws of `accuracy` cite.
-pub mod Fractions
 pub mod ExactElements
 pub mod ExactStations
 pub mod Accuracy

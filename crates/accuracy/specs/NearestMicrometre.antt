@@ -3,7 +3,7 @@ use Prim.Native.Nat.{ℕ, _*_}
 use lib.IntN.{ℤ, pos, _+ℤ_, _-ℤ_, _*ℤ_}
 use Rattle.elements.specs.WorkingRule.{scale, fullAngle, spiralAngle, sineOf, cosineOf, unitX, unitY, spiralX, spiralY, centreOf, shiftOf, arcOf, tanOf, tangentOf}
 use Rattle.elements.specs.SpiralPoint.{angleTo, offsetX, offsetY}
-use Rattle.accuracy.specs.Fractions.{whole, nat, _⊖_, _⊘_, _≼_, _≺_}
+use Rattle.numbers.specs.Fractions.{whole, nat, _⊖_, _⊘_, _≼_, _≺_}
 
 -- r is the whole number nearest to z / m: above it by a half at the most, and below it by less than a half.
 pub record Nearest (r z : ℤ) (m : ℕ) : Type 0 where

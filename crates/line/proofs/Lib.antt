@@ -6,4 +6,5 @@ pub mod Entries
 pub mod Sides
 pub mod Beside
 pub mod Numbers
+pub mod SpeedTables
 pub mod Examples

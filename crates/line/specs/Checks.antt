@@ -15,15 +15,19 @@ within least most x = leb least x && leb x most
 abbrev pub greatestStart : ℕ
 greatestStart = 200000000
 
+-- 4: V "40, 50, .. 120 only"
+abbrev pub speedCheck : ℕ → Checks
+speedCheck speed = check (within 40 120 speed && eqb (speed % 10) 0) 4 0
+
 -- 6: the start
 unfoldable pub startCheck : ℕ → Checks
 startCheck start = check (leb start greatestStart) 6 0
 
--- 3 to 6: "n curves (0 to 64)", V "40, 50, .. 120 only", e "2 to 12", the start
+-- 3 to 6: "n curves (0 to 64)", V, e "2 to 12", the start
 unfoldable pub headChecks : ℕ → ℕ → ℕ → ℕ → Checks
 headChecks count speed crossfall start =
     check (leb count 64) 3 0
-    ⨾ check (within 40 120 speed && eqb (speed % 10) 0) 4 0
+    ⨾ speedCheck speed
     ⨾ check (within 2 12 crossfall) 5 0
     ⨾ startCheck start
 

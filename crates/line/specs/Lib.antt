@@ -2,3 +2,4 @@
 pub mod Checks
 pub mod Ranges
 pub mod Entries
+pub mod Speeds

@@ -4,7 +4,7 @@ ghost use mathlib.Core.Bool.{_&&_};
 ghost use Prim.Native.Nat.{_≤_};
 ghost use Rattle.refusals.specs.Outcomes.{outcomeOf, _▹_};
 ghost use Rattle.refusals.specs.Order.{outcome};
-ghost use Rattle.line.specs.Checks.{within, startCheck, headChecks, distanceCheck, curveChecks, bodyChecks, lineChecks};
+ghost use Rattle.line.specs.Checks.{within, speedCheck, startCheck, headChecks, distanceCheck, curveChecks, bodyChecks, lineChecks};
 use crate::Curve;
 use crate::Line;
 use refusals::Refusal;
@@ -25,6 +25,14 @@ fn both(a: bool, b: bool) -> bool
     if a { b } else { false }
 }
 
+// Refusal 4: a design speed, in km/h.
+pub fn check_speed(speed: u64) -> Verdict
+    ensures { λ r. ⌜ outcomeOf r ≡ outcome (speedCheck speed) ⌝ }
+{
+    let ranged = both(40 <= speed, speed <= 120);
+    must(both(ranged, speed % 10 == 0), Refusal::Speed)
+}
+
 // Refusal 6: the start station, in mm.
 fn check_start(start: u32) -> Verdict
     ensures { λ r. ⌜ outcomeOf r ≡ outcome (startCheck start) ⌝ }
@@ -38,10 +46,7 @@ pub fn check_head(count: usize, speed: u32, crossfall: u32, start: u32) -> Verdi
     ensures { λ r. ⌜ outcomeOf r ≡ outcome (headChecks count speed crossfall start) ⌝ }
 {
     let n = must(count <= 64, Refusal::CurveCount);
-    let v = must(
-        both(between(40, 120, speed), speed % 10 == 0),
-        Refusal::Speed,
-    );
+    let v = check_speed(speed as u64);
     let e = must(between(2, 12, crossfall), Refusal::Crossfall);
     let s = check_start(start);
     first(n, first(v, first(e, s)))

@@ -7,6 +7,7 @@ pub use checks::check_curve;
 pub use checks::check_distance;
 pub use checks::check_head;
 pub use checks::check_line;
+pub use checks::check_speed;
 
 // A curve at an intersection point (PI), with two equal spirals or none. Any value of each type may
 // stand here; `check_curve` says which are in range.

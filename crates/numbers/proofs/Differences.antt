@@ -42,3 +42,22 @@ reaches a b k = go (leb b a) refl
     go false e =
         let h = leb-false b a e in
         rw (minus-lt h) (sym (lt-leb (b + k) a (omega arith)))
+
+pub stays-below : (a b k : ℕ) → leZ (pos a -ℤ pos b) (pos k) ≡ leb a (b + k)
+stays-below a b k = go (leb b a) refl
+  where
+    go : (t : Bool) → leb b a ≡ t → leZ (pos a -ℤ pos b) (pos k) ≡ leb a (b + k)
+    go true e =
+        let h = leb-true b a e in
+        rw (minus-le h) (near (leb (a - b) k) refl h)
+      where
+        near : (t : Bool) → leb (a - b) k ≡ t → b ≤ a → leb (a - b) k ≡ leb a (b + k)
+        near true q h =
+            let r = leb-true (a - b) k q in
+            q ∙ sym (le-leb a (b + k) (omega arith))
+        near false q h =
+            let r = leb-false (a - b) k q in
+            q ∙ sym (lt-leb a (b + k) (omega arith))
+    go false e =
+        let h = leb-false b a e in
+        rw (minus-lt h) (sym (le-leb a (b + k) (omega arith)))

@@ -6,3 +6,6 @@ pub mod Tables
 pub mod Products
 pub mod Stores
 pub mod Signs
+pub mod Floors
+pub mod Integers
+pub mod FloorOrder

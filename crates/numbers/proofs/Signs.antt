@@ -24,6 +24,10 @@ negative-times x y = *ℤ-comm (negℤ x) y ∙ times-negative y x ∙ ap negℤ
 pub negative-difference : (x y : ℤ) → negℤ x -ℤ negℤ y ≡ negℤ (x -ℤ y)
 negative-difference x y = sym (negℤ-+ℤ x (negℤ y))
 
+-- A difference the other way round.
+pub turned-difference : (a b : ℤ) → negℤ (a -ℤ b) ≡ b -ℤ a
+turned-difference a b = negℤ-+ℤ a (negℤ b) ∙ ap (λ (z : ℤ). negℤ a +ℤ z) (negℤ-negℤ b) ∙ +ℤ-comm (negℤ a) b
+
 -- What is added to both goes out of a difference.
 pub moved-difference : (x y e : ℤ) → (x +ℤ e) -ℤ (y +ℤ e) ≡ x -ℤ y
 moved-difference x y e =

@@ -1,2 +1,3 @@
--- Whole numbers.
+-- Whole numbers and fractions.
 pub mod Whole
+pub mod Fractions

@@ -17,7 +17,8 @@ use Rattle.elements.specs.Answer.{arcCheck}
 use Rattle.elements.specs.SpiralPoint.{partTo, angleTo, offsetX, offsetY}
 use Rattle.stationing.specs.declared.ElementKind.{ElementKind}
 use Rattle.stationing.specs.declared.ElementKind.the-variants.{Straight, SpiralIn, Arc, SpiralOut}
-use Rattle.stationing.specs.RoadTables.{underSpeed, frictionAt, leastSpiralAt, radiusServes, spiralServes}
+use Rattle.line.specs.Speeds.{underSpeed}
+use Rattle.stationing.specs.RoadTables.{frictionAt, leastSpiralAt, radiusServes, spiralServes}
 use Rattle.stationing.specs.Stations.{spiralAt, arcAt, tangentAt, tangentBefore, tangentAfter, straightAt, formerST}
 use Rattle.stationing.specs.Answer.{designChecks, designChecksAt, straightCheck, alignmentChecks}
 use Rattle.stationing.specs.LineElements.{elementsFrom, elementsOf, total, lineLength, placedFrom, placedElements}

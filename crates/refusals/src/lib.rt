@@ -3,19 +3,19 @@ ghost use mathlib.Core.Path.{_≡_};
 ghost use Rattle.refusals.specs.Table.{numberOf, placeOf};
 ghost use Rattle.refusals.specs.Outcomes.{outcomeOf, need, _▹_};
 
-// A refusal with its place: the index of a distance (0 to n), the number of a curve (1 to n), or none.
+// A refusal with its place: the index of a distance (0 to n), the number of a curve or a vertex (1 to n), or none.
 pub enum Refusal {
     // 1: too few bytes.
     Truncated,
     // 2: the edition is not one that can be read.
     Edition,
-    // 3: too many curves or points, too few points, or numbers that do not pair.
+    // 3: too many curves, points or vertices, too few points, or a wrong count of numbers.
     CurveCount,
     // 4: not a design speed.
     Speed,
     // 5: the crossfall is out of range.
     Crossfall,
-    // 6: the start is out of range.
+    // 6: the start is out of range, or a profile's vertex or height.
     Start,
     // 7: too many bytes, or a fill bit is set.
     Trailing,
@@ -37,7 +37,7 @@ pub enum Refusal {
     ShortStraight(u16),
     // 16: the caller's buffer is too small.
     SmallBuffer,
-    // 17: the station is outside the line.
+    // 17: the station is outside the line or the profile.
     Station,
     // 18: the coordinate is out of range.
     Coordinate,
@@ -45,6 +45,12 @@ pub enum Refusal {
     NoTurn(u16),
     // 20: the legs at the PI turn by 216,001 seconds or more.
     WideTurn(u16),
+    // 21: the vertical curve's length is out of range, or it reaches past the curve before it or the start.
+    VerticalCurve(u16),
+    // 22: the grade is out of range; the first grade's place is 0.
+    Grade(u16),
+    // 23: the vertical curve is shorter than sight needs.
+    Sight(u16),
 }
 
 // What a call that fills a caller's buffer answers: how many entries it wrote at the buffer's front, or why it wrote none.
@@ -85,10 +91,13 @@ impl Refusal {
             Refusal::Coordinate => 18,
             Refusal::NoTurn(_) => 19,
             Refusal::WideTurn(_) => 20,
+            Refusal::VerticalCurve(_) => 21,
+            Refusal::Grade(_) => 22,
+            Refusal::Sight(_) => 23,
         }
     }
 
-    // The place: a distance's index, a curve's number, or 0.
+    // The place: a distance's index, a curve's or a vertex's number, or 0.
     pub fn place(self) -> u16
         ensures { λ r. ⌜ r ≡ placeOf self ⌝ }
     {
@@ -113,6 +122,9 @@ impl Refusal {
             Refusal::Coordinate => 0,
             Refusal::NoTurn(curve) => curve,
             Refusal::WideTurn(curve) => curve,
+            Refusal::VerticalCurve(vertex) => vertex,
+            Refusal::Grade(vertex) => vertex,
+            Refusal::Sight(vertex) => vertex,
         }
     }
 }

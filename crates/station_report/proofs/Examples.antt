@@ -8,7 +8,8 @@ use Rattle.line.specs.Checks.{startCheck, headChecks, distanceCheck, curveCheck
 use Rattle.line.specs.Entries.{entries}
 use Rattle.bits.specs.Bits.{valueOf, bitsAt, valuesAt}
 use Rattle.packed_sheet.specs.Reading.{headOf, distanceOf, curveOf, lineOf, sizeChecks, frameChecks, readChecks, readLine}
-use Rattle.stationing.specs.RoadTables.{underSpeed, frictionAt, leastSpiralAt, radiusServes, spiralServes}
+use Rattle.line.specs.Speeds.{underSpeed}
+use Rattle.stationing.specs.RoadTables.{frictionAt, leastSpiralAt, radiusServes, spiralServes}
 use Rattle.stationing.specs.Answer.{designChecks, designChecksAt, alignmentChecks}
 use Rattle.report.specs.Numbers.{ascii, digitsWithin, decimal}
 use Rattle.report.specs.Text.{words, refusalLine}

@@ -12,7 +12,8 @@ use Rattle.line.specs.declared.Line.{Line}
 use Rattle.line.specs.Checks.{startCheck, headChecks, distanceCheck, curveChecks, bodyChecks, lineChecks}
 use Rattle.elements.specs.WorkingRule.{rounded, fullAngle, halfAngle, spiralAngle, term, alternating, sineOf, cosineOf, t2, t3, t4, unitX, unitY, spiralX, spiralY, centreOf, shiftOf, arcOf, tanOf, tangentOf}
 use Rattle.elements.specs.Answer.{arcCheck}
-use Rattle.stationing.specs.RoadTables.{underSpeed, frictionAt, leastSpiralAt, radiusServes, spiralServes}
+use Rattle.line.specs.Speeds.{underSpeed}
+use Rattle.stationing.specs.RoadTables.{frictionAt, leastSpiralAt, radiusServes, spiralServes}
 use Rattle.stationing.specs.Stations.{spiralAt, arcAt, tangentAt, tangentBefore, tangentAfter, straightAt, formerST, pointsAt, endOf, curveStations, stationsOf, stationRow}
 use Rattle.stationing.specs.Answer.{designChecks, designChecksAt, straightCheck, alignmentChecks, stationsIn}
 

@@ -1,12 +1,9 @@
 -- Document 01's "Road tables", and the tests of refusals 12 and 13.
-use mathlib.Core.Bool.{Bool, cond, _&&_, _||_}
+use mathlib.Core.Bool.{Bool, _&&_, _||_}
 use mathlib.Core.List.{List, [], _∷_}
 use Prim.Native.Nat.{ℕ, _+_, _*_}
 use lib.Dec.{leb, eqb}
-
--- The row "V"
-abbrev pub speeds : List ℕ
-speeds = 40 ∷ 50 ∷ 60 ∷ 70 ∷ 80 ∷ 90 ∷ 100 ∷ 110 ∷ 120 ∷ []
+use Rattle.line.specs.Speeds.{speeds, underSpeed}
 
 -- The row "f, hundredths"
 abbrev pub frictions : List ℕ
@@ -15,12 +12,6 @@ frictions = 18 ∷ 16 ∷ 15 ∷ 15 ∷ 14 ∷ 14 ∷ 13 ∷ 12 ∷ 11 ∷ []
 -- The row "least spiral, m"
 abbrev pub leastSpirals : List ℕ
 leastSpirals = 30 ∷ 30 ∷ 30 ∷ 40 ∷ 40 ∷ 50 ∷ 60 ∷ 60 ∷ 70 ∷ []
-
--- The entry of a row under a speed.
-unfoldable pub underSpeed : ℕ → List ℕ → List ℕ → ℕ
-underSpeed speed [] row = 0
-underSpeed speed (v ∷ vs) [] = 0
-underSpeed speed (v ∷ vs) (x ∷ row) = cond (eqb v speed) x (underSpeed speed vs row)
 
 -- f at a design speed v.
 unfoldable pub frictionAt : ℕ → ℕ

@@ -1,10 +1,9 @@
 -- `must`: the refusal is answered where the test fails. Assumes nothing.
-use borrow.Author.Needs.{needs}
 use Rattle.refusals.proofs.must.Statement.{statement}
 use Rattle.refusals.proofs.must.Tie as tie
 
 returns : tie.Need-returns
-returns c = search needs
+returns c = rw (c .if1 .taken)
 
 returns-2 : tie.Need-returns-2
 returns-2 c = rw (c .if1 .left)

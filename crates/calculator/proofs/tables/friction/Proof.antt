@@ -1,7 +1,8 @@
 -- `friction`: the table passes the test of its rule. Assumes nothing.
 use mathlib.Core.Path.{refl}
-use Rattle.stationing.specs.RoadTables.{frictions, underSpeed, frictionAt}
-use Rattle.stationing.proofs.TableRule.{tabled}
+use Rattle.stationing.specs.RoadTables.{frictions, frictionAt}
+use Rattle.line.specs.Speeds.{underSpeed}
+use Rattle.line.proofs.SpeedTables.{tabled}
 use borrow.Author.Needs.{needs}
 use Rattle.calculator.proofs.tables.friction.Statement.{statement}
 use Rattle.calculator.proofs.tables.friction.Tie as tie
@@ -19,7 +20,7 @@ returns : tie.Need-returns
 unfolding frictionAt underSpeed
 returns c =
     let p = c .before .pre in
-    tabled frictions refl refl _ _ (p .0) (p .1) (p .2) (c .column .ensures .0)
+    tabled frictionAt 100 frictions refl refl _ _ (p .0) (p .1) (p .2) (c .column .ensures .0)
 
 pub friction-spec : {M : Type 1} → statement M
 friction-spec = tie.close (tie.spec column-requires mul-result array-read-result returns)

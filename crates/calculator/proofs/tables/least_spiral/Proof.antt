@@ -1,7 +1,8 @@
 -- `least_spiral`: the table passes the test of its rule. Assumes nothing.
 use mathlib.Core.Path.{refl}
-use Rattle.stationing.specs.RoadTables.{leastSpirals, underSpeed, leastSpiralAt}
-use Rattle.stationing.proofs.TableRule.{tabled}
+use Rattle.stationing.specs.RoadTables.{leastSpirals, leastSpiralAt}
+use Rattle.line.specs.Speeds.{underSpeed}
+use Rattle.line.proofs.SpeedTables.{tabled}
 use borrow.Author.Needs.{needs}
 use Rattle.calculator.proofs.tables.least_spiral.Statement.{statement}
 use Rattle.calculator.proofs.tables.least_spiral.Tie as tie
@@ -19,7 +20,7 @@ returns : tie.Need-returns
 unfolding leastSpiralAt underSpeed
 returns c =
     let p = c .before .pre in
-    tabled leastSpirals refl refl _ _ (p .0) (p .1) (p .2) (c .column .ensures .0)
+    tabled leastSpiralAt 100 leastSpirals refl refl _ _ (p .0) (p .1) (p .2) (c .column .ensures .0)
 
 pub least-spiral-spec : {M : Type 1} → statement M
 least-spiral-spec = tie.close (tie.spec column-requires mul-result array-read-result returns)

@@ -1,8 +1,5 @@
 -- `check_head`: the code joins its verdicts as the definition does, in the same order. Assumes nothing.
-use mathlib.Core.Path.{_∙_, ap}
-use mathlib.Core.Bool.{Bool, _&&_}
-use Prim.Native.Nat.{_%_}
-use lib.Dec.{eqb}
+use mathlib.Core.Path.{_∙_}
 use Rattle.refusals.proofs.Joining.{join, tested}
 use Rattle.line.specs.Checks.{headChecks}
 use Rattle.line.proofs.checks.check_head.Statement.{statement}
@@ -11,20 +8,14 @@ use Rattle.line.proofs.checks.check_head.Tie as tie
 must-requires : tie.Need-must-requires
 must-requires c κs = tt
 
+check-speed-requires : tie.Need-check-speed-requires
+check-speed-requires c κs = tt
+
 between-requires : tie.Need-between-requires
 between-requires c κs = tt
 
-both-requires : tie.Need-both-requires
-both-requires c κs = tt
-
 must-requires-2 : tie.Need-must-requires-2
 must-requires-2 c κs = tt
-
-between-requires-2 : tie.Need-between-requires-2
-between-requires-2 c κs = tt
-
-must-requires-3 : tie.Need-must-requires-3
-must-requires-3 c κs = tt
 
 check-start-requires : tie.Need-check-start-requires
 check-start-requires c κs = tt
@@ -44,24 +35,22 @@ returns c =
     let start = c .before .before .before in
     let fall = start .before in
     let speed = fall .before .before in
-    let count = speed .before .before .before in
+    let count = speed .before in
     c .first3 .ensures
     ∙ join (count .must .ensures)
     (c .before .first2 .ensures
-    ∙ join (tested 4 0 (speed .must2 .ensures) (speed .before .both .ensures ∙ ap (λ (t : Bool). t && eqb (count .before .args .speed % 10) 0) (speed .before .before .between .ensures)))
+    ∙ join (speed .check-speed .ensures)
     (c .before .before .first .ensures
-    ∙ join (tested 5 0 (fall .must3 .ensures) (fall .before .between2 .ensures)) (start .check-start .ensures)))
+    ∙ join (tested 5 0 (fall .must2 .ensures) (fall .before .between .ensures)) (start .check-start .ensures)))
 
 pub check-head-spec : {M : Type 1} → statement M
 check-head-spec =
     tie.close
     (tie.spec
     must-requires
+    check-speed-requires
     between-requires
-    both-requires
     must-requires-2
-    between-requires-2
-    must-requires-3
     check-start-requires
     first-requires
     first-requires-2

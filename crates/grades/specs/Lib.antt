@@ -1,0 +1,2 @@
+-- What the laws of `grades` cite, and the crates above.
+pub mod Heights

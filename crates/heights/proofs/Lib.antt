@@ -1,0 +1,3 @@
+-- Laws that the code of `heights` needs.
+pub mod Passes
+pub mod NextCurve

@@ -1,0 +1,2 @@
+-- What the private steps of `heights` promise.
+pub mod Between

@@ -1,0 +1,4 @@
+-- Laws of profiles.
+pub mod InRange
+pub mod Bounds
+pub mod Walk

@@ -1,0 +1,3 @@
+-- Laws of sight.
+pub mod PublishedLengths
+pub mod Examples

@@ -1,0 +1,3 @@
+-- What the contracts of `heights` and the laws of `sight` cite.
+pub mod Sight
+pub mod Formulas
