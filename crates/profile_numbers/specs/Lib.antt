@@ -1,0 +1,2 @@
+-- What the contracts of `profile_numbers` cite.
+pub mod Numbers

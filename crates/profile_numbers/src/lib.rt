@@ -1,0 +1,5 @@
+// A profile as numbers, for callers in other languages, and its height at a station.
+mod call;
+mod reader;
+
+pub use call::height;
