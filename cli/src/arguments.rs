@@ -1,8 +1,8 @@
 //! The command line.
 
-use crate::commands::pegs::Every;
 use crate::commands::sheets::Sheets;
 use crate::commands::stations::Form;
+use crate::commands::stops::Every;
 use crate::help;
 use std::borrow::Cow;
 use std::ffi::{OsStr, OsString};

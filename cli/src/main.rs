@@ -12,6 +12,7 @@ mod explain;
 mod field;
 mod files;
 mod help;
+mod items;
 mod limits;
 mod line;
 mod quantity;

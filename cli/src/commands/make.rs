@@ -3,8 +3,9 @@
 use crate::console::{Console, Status};
 use crate::explain::counted;
 use crate::files::{are_same, is_output, read_text, replace, Name};
+use crate::items::Remark;
 use crate::line::Line;
-use crate::text::{Remark, Text};
+use crate::text::Text;
 use std::ffi::OsStr;
 use std::io;
 

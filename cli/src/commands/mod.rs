@@ -4,6 +4,8 @@ pub mod check;
 pub mod elements;
 pub mod make;
 pub mod pegs;
+
 pub mod sheets;
 pub mod show;
 pub mod stations;
+pub mod stops;
