@@ -1,9 +1,11 @@
 //! The command line.
 
+use crate::commands::profile::Wanted;
 use crate::commands::sheets::Sheets;
 use crate::commands::stations::Form;
 use crate::commands::stops::Every;
 use crate::help;
+use crate::quantity::length_in_metres;
 use std::borrow::Cow;
 use std::ffi::{OsStr, OsString};
 use std::os::unix::ffi::OsStrExt;
@@ -20,6 +22,10 @@ pub enum Request {
         form: Form,
         every: Every,
         sheets: Sheets,
+    },
+    Profile {
+        wanted: Wanted,
+        texts: Sheets,
     },
     Elements {
         sheets: Sheets,
@@ -40,6 +46,7 @@ pub enum Request {
 enum Subcommand {
     Stations,
     Pegs,
+    Profile,
     Elements,
     Check,
     Make,
@@ -51,6 +58,7 @@ impl Subcommand {
         match name {
             "stations" => Ok(Subcommand::Stations),
             "pegs" => Ok(Subcommand::Pegs),
+            "profile" => Ok(Subcommand::Profile),
             "elements" => Ok(Subcommand::Elements),
             "check" => Ok(Subcommand::Check),
             "make" => Ok(Subcommand::Make),
@@ -63,6 +71,7 @@ impl Subcommand {
         match self {
             Subcommand::Stations => help::STATIONS,
             Subcommand::Pegs => help::PEGS,
+            Subcommand::Profile => help::PROFILE,
             Subcommand::Elements => help::ELEMENTS,
             Subcommand::Check => help::CHECK,
             Subcommand::Make => help::MAKE,
@@ -70,19 +79,26 @@ impl Subcommand {
         }
     }
 
-    /// Whether it takes several sheets, and so a list of them.
+    /// Whether it takes several sheets or texts, and so a list of them.
     fn takes_list(self) -> bool {
         match self {
-            Subcommand::Stations | Subcommand::Pegs | Subcommand::Elements | Subcommand::Check => {
-                true
-            }
+            Subcommand::Stations
+            | Subcommand::Pegs
+            | Subcommand::Profile
+            | Subcommand::Elements
+            | Subcommand::Check => true,
             Subcommand::Make | Subcommand::Show => false,
         }
     }
 
     /// Whether it prints stations in a form that is asked for.
     fn takes_form(self) -> bool {
-        matches!(self, Subcommand::Stations | Subcommand::Pegs)
+        self == Subcommand::Stations || self.takes_distance()
+    }
+
+    /// Whether it lists the multiples of a distance.
+    fn takes_distance(self) -> bool {
+        matches!(self, Subcommand::Pegs | Subcommand::Profile)
     }
 }
 
@@ -110,6 +126,8 @@ struct Words {
     names: Vec<OsString>,
     form: Option<Form>,
     every: Option<Every>,
+    from: Option<u64>,
+    to: Option<u64>,
     list: Option<OsString>,
     wants_help: bool,
 }
@@ -129,8 +147,14 @@ impl Words {
                 "--as" if subcommand.takes_form() => {
                     once(&option, &mut read.form, form(&value()?)?)?;
                 }
-                "--every" if subcommand == Subcommand::Pegs => {
+                "--every" if subcommand.takes_distance() => {
                     once(&option, &mut read.every, every(&value()?)?)?;
+                }
+                "--from" if subcommand == Subcommand::Profile => {
+                    once(&option, &mut read.from, station(&option, &value()?)?)?;
+                }
+                "--to" if subcommand == Subcommand::Profile => {
+                    once(&option, &mut read.to, station(&option, &value()?)?)?;
                 }
                 "--list" if subcommand.takes_list() => once(&option, &mut read.list, value()?)?,
                 "--help" | "-h" if joined.is_none() => read.wants_help = true,
@@ -148,6 +172,7 @@ impl Words {
             return Ok(Request::Help(subcommand.help()));
         }
         let form = self.form.unwrap_or(Form::Metres);
+        let every = self.every.take().unwrap_or(Every::USUAL);
         match subcommand {
             Subcommand::Stations => Ok(Request::Stations {
                 form,
@@ -155,8 +180,17 @@ impl Words {
             }),
             Subcommand::Pegs => Ok(Request::Pegs {
                 form,
-                every: self.every.take().unwrap_or(Every::USUAL),
+                every,
                 sheets: self.sheets_or(Some("-"))?,
+            }),
+            Subcommand::Profile => Ok(Request::Profile {
+                wanted: Wanted {
+                    form,
+                    every,
+                    from: self.from,
+                    to: self.to,
+                },
+                texts: self.sheets_or(Some("-"))?,
             }),
             Subcommand::Elements => Ok(Request::Elements {
                 sheets: self.sheets_or(None)?,
@@ -180,7 +214,7 @@ impl Words {
         match (self.list, self.names.is_empty(), usual) {
             (None, false, _) => Ok(Sheets::Named(self.names)),
             (Some(list), true, _) => Ok(Sheets::Listed(list)),
-            (Some(_), false, _) => Err("sheets or a list of them are wanted, not both".into()),
+            (Some(_), false, _) => Err("files or a list of them are wanted, not both".into()),
             (None, true, Some(usual)) => Ok(Sheets::Named(vec![usual.into()])),
             (None, true, None) => Err("a sheet is missing".into()),
         }
@@ -219,4 +253,11 @@ fn form(name: &OsStr) -> Result<Form, String> {
 
 fn every(word: &OsStr) -> Result<Every, String> {
     Every::read(&word.to_string_lossy()).map_err(|words| format!("--every {words}"))
+}
+
+/// A station of mm, in metres where it names no unit.
+fn station(option: &str, word: &OsStr) -> Result<u64, String> {
+    let station = length_in_metres(&word.to_string_lossy());
+    let station = station.map_err(|words| format!("{option} {words}"))?;
+    Ok(station.value)
 }

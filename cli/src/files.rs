@@ -58,7 +58,9 @@ pub fn read_sheet(name: &OsStr) -> io::Result<Vec<u8>> {
 pub fn read_text(name: &OsStr) -> io::Result<Vec<u8>> {
     let text = read(name, MOST_OF_TEXT)?;
     match text.len() as u64 == MOST_OF_TEXT {
-        true => Err(io::Error::other("too long for the text of a line")),
+        true => Err(io::Error::other(
+            "too long for the text of a line or a profile",
+        )),
         false => Ok(text),
     }
 }

@@ -6,6 +6,8 @@ macro_rules! usage {
         "\
 usage: pokyandi stations [--as metres|km|estaca|csv] [SHEET..]
        pokyandi pegs [--every 20m] [--as metres|km|estaca|csv] [SHEET..]
+       pokyandi profile [--every 20m] [--from STATION] [--to STATION]
+                        [--as metres|km|estaca|csv] [TEXT..]
        pokyandi elements SHEET..
        pokyandi check SHEET..
        pokyandi make TEXT SHEET
@@ -23,18 +25,19 @@ pub const USAGE: &str = usage!();
 pub const ALL: &str = concat!(
     usage!(),
     "
-Stations of road alignments from packed sheets.
+Stations of road alignments from packed sheets, and heights of profiles.
 
 stations   the stations of TS, SC, CS and ST of every curve, and of the end
 pegs       a list for the crew: the element under every 20 m and every point
+profile    the heights of a profile, from a plain text with grades and vertices
 elements   X, Y, k, p, D and TT of every curve, and the straights
 check      a line for each sheet: fine, or why it is refused, with the limit missed
 make       the sheet of a plain text, with distances and deflections or with points
 show       the text of a sheet
 
 The name - stands for standard input; as the SHEET of make, for standard output.
-Where several sheets are taken, --list FILE takes those that FILE names.
-Exit status: 0 done; 1 a sheet is refused or a text is faulty; 2 wrong usage, or
+Where several sheets or texts are taken, --list FILE takes those that FILE names.
+Exit status: 0 done; 1 a sheet or text is refused or faulty; 2 wrong usage, or
 reading or writing failed. Results go to standard output, words to standard error.
 
 From a plain text to stations:
@@ -120,6 +123,74 @@ read does not stop the others. More than 1000000 distances on a line are an erro
          0+350.000000 -     spiral-in       1    30.989280  30.985635   0.354257
          0+359.010720 SC    arc             1     0.000000   0.000000   0.000000
          0+400.000000 -     arc             1    40.989280   0.000000   0.000000
+";
+
+pub const PROFILE: &str = "\
+usage: pokyandi profile [--every 20m] [--from STATION] [--to STATION]
+                        [--as metres|km|estaca|csv] [TEXT..]
+       pokyandi profile [OPTION..] --list FILE
+
+Prints the heights of a road's profile, a line for each station, in order. The
+profile is a plain text, one item on each line, in this order:
+
+    speed 40
+    start 12+340.5km
+    height 845.250m
+    grade -3.5%
+    vertex 12+520km 4.25% 80m
+    vertex 13+140km -6% 120m
+
+Height is that of the road at the start, grade the first grade. A vertex, where two
+grades prolonged meet, has its station, the grade behind it and the length of its
+curve, half of it on each side; up to 32 vertices, in order. A length has the forms
+that pokyandi make --help lists, without a unit mm, and a height may have a sign. A
+grade has its %, up to four decimals and, where the road falls, a minus. The speed,
+in km/h, decides how long a curve must be for sight. # begins a comment.
+
+The list has the start, every station that is a whole multiple of the distance, the
+points of every curve, and the two stations where it begins and ends. Where several
+of them meet there is one line: MID=HIGH. Of each it prints:
+
+  STATION   in the form that --as asks for
+  POINT     START; BVC and EVC, where a curve begins and ends; MID, the station of
+            the vertex; HIGH or LOW, the highest point of a crest or the lowest of a
+            sag, to the nearest mm; else -, in csv nothing
+  ELEMENT   grade, crest or sag, or curve between equal grades; where two meet, the
+            one that begins there
+  NUMBER    of the curve; grades count from 0, the one before curve 1
+  HEIGHT    of the road, at MID too, in metres, rounded down to the mm
+
+  --every LENGTH   the distance, 20m where none is given; without a unit it is in
+                   metres; other forms are 500mm, 0+020km and 1+0e
+  --from STATION   where the list begins, the start where none is given
+  --to STATION     where it ends, up to 200+000km; the end of the last curve where
+                   none is given, since a profile has no end of its own
+  --as FORM        as for stations; csv has one heading for all texts, and of a
+                   refused one REFUSED, number and place stand for the point
+  --list FILE      the texts are those that FILE names, a line each
+
+--from and --to take the forms of --every. Without a text it reads standard input, as
+for the name -. Several texts each get a line TEXT NAME above their list, but for csv;
+one that is refused or faulty or cannot be read does not stop the others. More than
+1000000 distances are an error.
+
+    $ pokyandi profile --every 50m --as km --to 12+620km samples/profile.txt
+          STATION(km) POINT    ELEMENT NUMBER   HEIGHT(m)
+        12+340.500000 START    grade        0     845.250
+        12+350.000000 -        grade        0     844.917
+        12+400.000000 -        grade        0     843.167
+        12+450.000000 -        grade        0     841.417
+        12+480.000000 BVC      sag          1     840.367
+        12+500.000000 -        sag          1     839.861
+        12+516.129000 LOW      sag          1     839.735
+        12+520.000000 MID      sag          1     839.742
+        12+550.000000 -        sag          1     840.290
+        12+560.000000 EVC      grade        1     840.667
+        12+600.000000 -        grade        1     842.367
+        12+620.000000 -        grade        1     843.217
+    $ pokyandi profile --from 13+000km --to 13+000km samples/profile.txt
+           STATION(m) POINT    ELEMENT NUMBER   HEIGHT(m)
+         13000.000000 -        grade        1     859.367
 ";
 
 pub const ELEMENTS: &str = "\

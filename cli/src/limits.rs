@@ -2,6 +2,7 @@
 //! does not refuse. No range, table or formula is written down here.
 
 use crate::line::{example, Curve, Line};
+use crate::profile::{self, Profile, Vertex};
 use crate::survey::Survey;
 use pokyandi::line::{curve, CROSSFALL, CURVES, SPEED};
 use pokyandi::{element, Reason, Refusal};
@@ -244,10 +245,133 @@ pub fn widest_turn() -> u64 {
     widest.expect("a line may turn").curve(1).deflection
 }
 
+/// Where the length of curve i stands in a profile.
+fn index_of_length(i: usize) -> usize {
+    pokyandi::profile::vertex(i) + pokyandi::vertex::LENGTH
+}
+
+/// The range of the number at an index of the example's profile, outside of which it
+/// is refused for this reason.
+pub fn profile_range(index: usize, reason: Reason) -> (i64, i64) {
+    let profile = profile::example();
+    let now = profile.numbers[index];
+    let reach = |sign: i64| {
+        let at = |far: u64| now + sign * far as i64;
+        let serves = |far| !is_refused(profile.with(index, at(far)).check(), reason);
+        at(greatest(0..=MOST, serves).expect("the example is in range"))
+    };
+    (reach(-1), reach(1))
+}
+
+/// The design speeds of profiles, km/h.
+pub fn profile_speeds() -> Vec<i64> {
+    let with = |speed| profile::example().with(pokyandi::profile::SPEED, speed);
+    let serves = |speed: &i64| !is_refused(with(*speed).check(), Reason::Speed);
+    (0..=i64::from(u8::MAX)).filter(serves).collect()
+}
+
+/// The greatest number of vertices.
+pub fn most_vertices() -> u64 {
+    let profile_of = |n: u64| {
+        let mut numbers = profile::example().numbers;
+        let entry = numbers.split_off(pokyandi::profile::vertex(1));
+        numbers.extend((0..n).flat_map(|_| entry.iter()));
+        Profile { numbers }
+    };
+    let serves = |n| !is_refused(profile_of(n).check(), Reason::CurveCount);
+    greatest(0..=1_000, serves).expect("a profile may be without vertices")
+}
+
+/// The last station of a profile whose height is answered, mm.
+pub fn last_station(profile: &Profile) -> u64 {
+    let start = profile.start() as u64;
+    let serves = |station| !is_refused(profile.height(station), Reason::Station);
+    greatest(start..=MOST, serves).expect("the start has its height")
+}
+
+/// The range of a curve's length, which is even, mm.
+pub fn curve_lengths() -> (i64, i64) {
+    let profile = profile::example();
+    let (index, half) = (index_of_length(1), profile.vertex(1).length as u64 / 2);
+    let with = |half: u64| profile.with(index, 2 * half as i64);
+    let serves = |half| !is_refused(with(half).check(), Reason::VerticalCurve);
+    let low = least(0..=half, serves).expect("the example is in range");
+    let high = greatest(half..=MOST, serves).expect("the example is in range");
+    (2 * low as i64, 2 * high as i64)
+}
+
+/// The longest curve that vertex i of a profile has room for, mm; none where it has
+/// room for no curve.
+pub fn longest_curve(profile: &Profile, i: usize) -> Option<i64> {
+    let (low, high) = curve_lengths();
+    let refused = Refusal {
+        reason: Reason::VerticalCurve,
+        place: i as u32,
+    };
+    let with = |half: u64| profile.with(index_of_length(i), 2 * half as i64);
+    let serves = |half| with(half).check() != Err(refused);
+    let half = greatest(low as u64 / 2..=high as u64 / 2, serves)?;
+    Some(2 * half as i64)
+}
+
+/// The shortest curve that leaves sight enough between the grades of a vertex, mm;
+/// none where no curve is long enough.
+pub fn least_curve(speed: i64, vertex: Vertex) -> Option<i64> {
+    let (low, high) = curve_lengths();
+    let example = profile::example();
+    let alone = example
+        .with(pokyandi::profile::SPEED, speed)
+        .with(pokyandi::profile::GRADE, vertex.grade_in)
+        .with(
+            pokyandi::profile::vertex(1) + pokyandi::vertex::GRADE,
+            vertex.grade_out,
+        );
+    let with = |half: u64| alone.with(index_of_length(1), 2 * half as i64);
+    let serves = |half| !is_refused(with(half).check(), Reason::Sight);
+    let half = least(low as u64 / 2..=high as u64 / 2, serves)?;
+    Some(2 * half as i64)
+}
+
 #[cfg(test)]
 mod tests {
     use super::*;
     use pokyandi::line::{distance, START};
+
+    #[test]
+    fn the_ranges_of_profiles() {
+        use pokyandi::profile::{vertex, GRADE, HEIGHT, START};
+        let range = |index| profile_range(index, Reason::Start);
+        assert_eq!(profile_speeds(), [40, 50, 60, 70, 80, 90, 100, 110, 120]);
+        assert_eq!(range(START), (0, 200_000_000));
+        assert_eq!(range(HEIGHT), (-10_000_000, 10_000_000));
+        assert_eq!(range(vertex(1)), (0, 200_000_000));
+        assert_eq!(profile_range(GRADE, Reason::Grade), (-120_000, 120_000));
+        assert_eq!(curve_lengths(), (2, 2_000_000));
+        assert_eq!(most_vertices(), 32);
+        assert_eq!(last_station(&profile::example()), 200_000_000);
+    }
+
+    #[test]
+    fn curves_of_profiles() {
+        let crest = |grade| Vertex {
+            station: 0,
+            grade_in: grade,
+            grade_out: -grade,
+            length: 0,
+        };
+        // 85² × 8 / 412 m is 140.291.., and 2 × 85 - 412 / 4 m is 67.
+        assert_eq!(least_curve(60, crest(40_000)), Some(140_292));
+        assert_eq!(least_curve(60, crest(20_000)), Some(67_000));
+        // 85² × 8 / (122 + 3.5 × 85) m is 137.783..
+        assert_eq!(least_curve(60, crest(-40_000)), Some(137_784));
+        assert_eq!(least_curve(60, crest(0)), Some(2));
+        assert_eq!(least_curve(120, crest(120_000)), None);
+        let profile = profile::example();
+        let room = |start| longest_curve(&profile.with(pokyandi::profile::START, start), 1);
+        assert_eq!(room(0), Some(2_000_000));
+        assert_eq!(room(99_990_000), Some(20_000));
+        assert_eq!([room(99_999_999), room(100_000_000)], [Some(2), None]);
+    }
 
     #[test]
     fn the_ranges_of_document_01() {

@@ -1,7 +1,7 @@
 //! The command `pokyandi`, for people: it reads arguments, sheets and plain
-//! text, and prints. Stations, pegs, elements and the lines of points are numbers
-//! that a call of the proved library answered; a straight is the difference of two
-//! stations.
+//! text, and prints. Stations, pegs, elements, heights and the lines of points are
+//! numbers that a call of the proved library answered; a straight is the difference
+//! of two stations, and the points of vertical curves lie half a length from a vertex.
 
 mod arguments;
 mod bits;
@@ -15,6 +15,7 @@ mod help;
 mod items;
 mod limits;
 mod line;
+mod profile;
 mod quantity;
 mod survey;
 mod text;
@@ -56,6 +57,7 @@ fn answer(request: Request, console: &mut Console) -> io::Result<Status> {
             every,
             sheets,
         } => pegs::run(form, every, sheets, console),
+        Request::Profile { wanted, texts } => commands::profile::run(wanted, texts, console),
         Request::Elements { sheets } => elements::run(sheets, console),
         Request::Check { sheets } => check::run(sheets, console),
         Request::Make { text, sheet } => make::run(&text, &sheet, console),

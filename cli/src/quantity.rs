@@ -1,5 +1,5 @@
-//! Lengths and angles as road offices write them, to and from whole mm, µm and
-//! seconds of arc.
+//! Lengths, angles and grades as road offices write them, to and from whole mm, µm,
+//! seconds of arc and millionths.
 
 use crate::decimal::{decimal, units_in, Fault};
 
@@ -10,11 +10,12 @@ const M_IN_KM: u64 = 1_000;
 const M_IN_ESTACA: u64 = 20;
 const SECONDS_IN_MINUTE: u64 = 60;
 const SECONDS_IN_DEGREE: u64 = 3_600;
+const MILLIONTHS_IN_PERCENT: u64 = 10_000;
 
 /// What a word says, and whether it names its unit.
 #[derive(Clone, Copy, Debug, PartialEq, Eq)]
-pub struct Quantity {
-    pub value: u64,
+pub struct Quantity<N = u64> {
+    pub value: N,
     pub has_unit: bool,
 }
 
@@ -24,6 +25,8 @@ const LENGTH_FORMS: &str = "310500 (mm), 310.5m, 12+340.5km or 617+0.00e";
 const METRE_FORMS: &str = "20m, 20 (m), 500mm, 0+020km or 1+0e";
 /// How angles are written, for messages.
 const ANGLE_FORMS: &str = "177764 (seconds), 49d22m44s, 49.5d or 49°22'44\"";
+/// How grades are written, for messages.
+const GRADE_FORMS: &str = "-3.5%, 4% or 0.25%";
 
 /// A length in mm.
 pub fn length(word: &str) -> Result<Quantity, String> {
@@ -31,12 +34,19 @@ pub fn length(word: &str) -> Result<Quantity, String> {
 }
 
 /// A length in mm that may have a sign.
-pub fn signed_length(word: &str) -> Result<i64, String> {
+pub fn signed_length(word: &str) -> Result<Quantity<i64>, String> {
+    let (is_minus, size) = sign_of(word);
+    let Quantity { value, has_unit } = length_in(size, word)?;
+    let mm = i64::try_from(value).map_err(|_| length_fault(word, Fault::TooLarge))?;
+    let value = if is_minus { -mm } else { mm };
+    Ok(Quantity { value, has_unit })
+}
+
+/// Whether a word has a minus, and the word without its sign.
+fn sign_of(word: &str) -> (bool, &str) {
     let minus = word.strip_prefix(['-', '−']);
     let size = minus.or(word.strip_prefix('+')).unwrap_or(word);
-    let mm = i64::try_from(length_in(size, word)?.value);
-    let mm = mm.map_err(|_| length_fault(word, Fault::TooLarge))?;
-    Ok(if minus.is_some() { -mm } else { mm })
+    (minus.is_some(), size)
 }
 
 /// The length of a size, which is a word without its sign.
@@ -222,6 +232,29 @@ pub fn number(word: &str, unit: &str) -> Result<Quantity, String> {
     })
 }
 
+/// A grade in millionths, which may have a sign. Only 0 may lack its %: a number
+/// alone might be one of percent or of millionths.
+pub fn grade(word: &str) -> Result<i64, String> {
+    let (is_minus, size) = sign_of(word);
+    let number = size.strip_suffix('%').unwrap_or(size);
+    let millionths = units_in(number, MILLIONTHS_IN_PERCENT);
+    if number == size && millionths.is_ok_and(|millionths| millionths != 0) {
+        return Err(format!("{word} has no %: write {GRADE_FORMS}"));
+    }
+    let millionths = millionths.map_err(|fault| match fault {
+        Fault::NotANumber => format!("{word} is no grade: write {GRADE_FORMS}"),
+        Fault::TooFine => format!("{word} is finer than a millionth, which is 0.0001%"),
+        Fault::TooLarge => format!("{word} is too large"),
+    })?;
+    let millionths = i64::try_from(millionths).map_err(|_| format!("{word} is too large"))?;
+    Ok(if is_minus { -millionths } else { millionths })
+}
+
+/// Millionths in percent: `-3.5000 %`.
+pub fn percent(millionths: i64) -> String {
+    format!("{} %", signed_decimal(millionths, 4))
+}
+
 /// mm in metres: `310.500 m`.
 pub fn metres_of_mm(mm: u64) -> String {
     format!("{} m", decimal(mm, 3))
@@ -229,7 +262,12 @@ pub fn metres_of_mm(mm: u64) -> String {
 
 /// mm in metres, which may be below zero: `-12.500 m`.
 pub fn metres_of_signed_mm(mm: i64) -> String {
-    format!("{} m", signed_decimal(mm, 3))
+    format!("{} m", signed_metres_of_mm(mm))
+}
+
+/// The same without the unit: `-12.500`.
+pub fn signed_metres_of_mm(mm: i64) -> String {
+    signed_decimal(mm, 3)
 }
 
 /// µm in metres, which may be below zero: `-0.000205 m`.
@@ -348,8 +386,11 @@ mod tests {
             ("310500", 310_500),
         ];
         for (word, mm) in cases {
-            assert_eq!(signed_length(word), Ok(mm), "{word}");
+            let length = signed_length(word).map(|length| length.value);
+            assert_eq!(length, Ok(mm), "{word}");
         }
+        let has_unit = |word| signed_length(word).unwrap().has_unit;
+        assert_eq!([has_unit("-12.5m"), has_unit("-12500")], [true, false]);
         let words = "-12.5 without a unit is in mm and must be whole: for metres write -12.5m";
         assert_eq!(signed_length("-12.5").unwrap_err(), words);
         for word in ["", "-", "+m", "--5m", "+-5m", "- 5m", "5m-", "12+-340km"] {
@@ -441,7 +482,45 @@ mod tests {
     }
 
     #[test]
+    fn grades() {
+        let cases = [
+            ("-3.5%", -35_000),
+            ("−3,5%", -35_000),
+            ("+4%", 40_000),
+            ("0.0001%", 1),
+            ("12%", 120_000),
+            ("3.50000%", 35_000),
+            ("0", 0),
+            ("-0.0%", 0),
+            ("99999999999999%", 999_999_999_999_990_000),
+        ];
+        for (word, millionths) in cases {
+            assert_eq!(grade(word), Ok(millionths), "{word}");
+        }
+        let words = "-3.5 has no %: write -3.5%, 4% or 0.25%";
+        assert_eq!(grade("-3.5").unwrap_err(), words);
+        let words = "0.00005% is finer than a millionth, which is 0.0001%";
+        assert_eq!(grade("0.00005%").unwrap_err(), words);
+        for word in [
+            "",
+            "%",
+            "-%",
+            "3.5 %",
+            "3%%",
+            "--3%",
+            "35‰",
+            "1:20",
+            "3m",
+            "999999999999999%",
+        ] {
+            assert!(grade(word).is_err(), "{word}");
+        }
+    }
+
+    #[test]
     fn printed() {
+        assert_eq!(percent(-35_000), "-3.5000 %");
+        assert_eq!(percent(1), "0.0001 %");
         assert_eq!(metres_of_mm(310_500), "310.500 m");
         assert_eq!(metres_of_um(-205), "-0.000205 m");
         assert_eq!(metres_of_signed_mm(-12_500), "-12.500 m");

@@ -295,7 +295,7 @@ impl Item<'_> {
                 line: self.line,
                 words: visible(&format!("{axis}: {fault}; it may be {}", survey::range())),
             };
-            coordinates[i] = signed_length(self.words[i + 1]).map_err(told)?;
+            coordinates[i] = signed_length(self.words[i + 1]).map_err(told)?.value;
         }
         Ok(coordinates)
     }

@@ -4,7 +4,7 @@ pub mod check;
 pub mod elements;
 pub mod make;
 pub mod pegs;
-
+pub mod profile;
 pub mod sheets;
 pub mod show;
 pub mod stations;

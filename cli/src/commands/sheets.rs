@@ -1,24 +1,47 @@
-//! Several sheets in one run: one that fails does not stop the others.
+//! Several sheets, or texts, in one run: one that fails does not stop the others.
 
 use crate::console::{Console, Status};
 use crate::explain;
-use crate::files::{is_standard, read_all, read_sheet, Name};
+use crate::files::{is_standard, read_all, read_sheet, read_text, Name};
 use pokyandi::Refusal;
 use std::ffi::{OsStr, OsString};
 use std::io;
 use std::os::unix::ffi::OsStringExt;
 
-/// The sheets of a run, by their files' names.
+/// The sheets or texts of a run, by their files' names.
 pub enum Sheets {
     Named(Vec<OsString>),
     /// The names stand in this file, a line each.
     Listed(OsString),
 }
 
-/// A sheet that was read.
+/// What the files of a run are.
+#[derive(Clone, Copy)]
+struct Kind {
+    name: &'static str,
+    plural: &'static str,
+    heading: &'static str,
+    read: fn(&OsStr) -> io::Result<Vec<u8>>,
+}
+
+const SHEET: Kind = Kind {
+    name: "sheet",
+    plural: "sheets",
+    heading: "SHEET",
+    read: read_sheet,
+};
+const TEXT: Kind = Kind {
+    name: "text",
+    plural: "texts",
+    heading: "TEXT",
+    read: read_text,
+};
+
+/// A sheet, or a text, that was read.
 pub struct Sheet<'a> {
     pub name: &'a OsStr,
     pub bytes: Vec<u8>,
+    kind: Kind,
     /// Whether others are in the same run, so that its results want its name.
     among_others: bool,
 }
@@ -27,19 +50,38 @@ pub struct Sheet<'a> {
 pub fn each(
     sheets: Sheets,
     console: &mut Console,
+    work: impl FnMut(&Sheet, &mut Console) -> io::Result<Status>,
+) -> io::Result<Status> {
+    each_of(SHEET, sheets, console, work)
+}
+
+/// The same with texts.
+pub fn each_text(
+    texts: Sheets,
+    console: &mut Console,
+    work: impl FnMut(&Sheet, &mut Console) -> io::Result<Status>,
+) -> io::Result<Status> {
+    each_of(TEXT, texts, console, work)
+}
+
+fn each_of(
+    kind: Kind,
+    sheets: Sheets,
+    console: &mut Console,
     mut work: impl FnMut(&Sheet, &mut Console) -> io::Result<Status>,
 ) -> io::Result<Status> {
-    let Some(names) = names_of(&sheets, console) else {
+    let Some(names) = names_of(&sheets, kind, console) else {
         return Ok(Status::Failed);
     };
     let among_others = names.len() > 1 || matches!(sheets, Sheets::Listed(_));
     let mut worst = Status::Done;
     for (i, name) in names.iter().enumerate() {
-        let status = match read_sheet(name) {
+        let status = match (kind.read)(name) {
             Ok(bytes) => {
                 let sheet = Sheet {
                     name,
                     bytes,
+                    kind,
                     among_others,
                 };
                 work(&sheet, console)?
@@ -47,13 +89,13 @@ pub fn each(
             Err(error) => failed(console, name, &error),
         };
         worst = worst.max(status);
-        console.progress(i + 1, names.len(), "sheets");
+        console.progress(i + 1, names.len(), kind.plural);
     }
     Ok(worst)
 }
 
 /// The names of the sheets; none, with words, where they cannot be had.
-fn names_of(sheets: &Sheets, console: &mut Console) -> Option<Vec<OsString>> {
+fn names_of(sheets: &Sheets, kind: Kind, console: &mut Console) -> Option<Vec<OsString>> {
     let (names, list) = match sheets {
         Sheets::Named(names) => (names.clone(), None),
         Sheets::Listed(list) => match read_all(list) {
@@ -65,7 +107,8 @@ fn names_of(sheets: &Sheets, console: &mut Console) -> Option<Vec<OsString>> {
         },
     };
     if let (Some(list), true) = (list, names.is_empty()) {
-        console.say(&format!("pokyandi: {}: it names no sheet", Name(list)));
+        let (list, kind) = (Name(list), kind.name);
+        console.say(&format!("pokyandi: {list}: it names no {kind}"));
         return None;
     }
     let inputs = names.iter().chain(list).filter(|name| is_standard(name));
@@ -96,7 +139,7 @@ impl Sheet<'_> {
     /// The line above the sheet's results, where others are in the same run.
     pub fn heading(&self) -> String {
         match self.among_others {
-            true => format!("SHEET {}\n", Name(self.name)),
+            true => format!("{} {}\n", self.kind.heading, Name(self.name)),
             false => String::new(),
         }
     }
@@ -114,9 +157,7 @@ impl Sheet<'_> {
         refusal: Refusal,
         console: &mut Console,
     ) -> io::Result<Status> {
-        let Refusal { reason, place } = refusal;
-        let line = format!("{before}REFUSED {} {place}{behind}\n", reason.number());
-        console.print(line.as_bytes())?;
+        print_refused(before, behind, refusal, console)?;
         self.explain(refusal, console);
         Ok(Status::Refused)
     }
@@ -126,4 +167,15 @@ impl Sheet<'_> {
         let words = explain::of_sheet(&self.bytes, refusal);
         console.say(&format!("{}: {words}", Name(self.name)));
     }
+}
+
+/// `REFUSED` with number and place, between other columns of a row.
+pub fn print_refused(
+    before: &str,
+    behind: &str,
+    Refusal { reason, place }: Refusal,
+    console: &mut Console,
+) -> io::Result<()> {
+    let line = format!("{before}REFUSED {} {place}{behind}\n", reason.number());
+    console.print(line.as_bytes())
 }

@@ -18,6 +18,8 @@ fn a_full_disk() {
         "pokyandi stations --as csv stations/*.sheet >/dev/full",
         "pokyandi pegs stations/case-01.sheet >/dev/full",
         "pokyandi pegs --every 12mm stations/mountain-road.sheet >/dev/full",
+        "pokyandi profile profile.txt >/dev/full",
+        "pokyandi profile --every 20mm profile.txt >/dev/full",
         "pokyandi elements stations/case-01.sheet >/dev/full",
         "pokyandi check stations/case-01.sheet >/dev/full",
         "pokyandi show stations/case-01.sheet >/dev/full",
@@ -49,6 +51,10 @@ fn a_closed_output_or_input() {
         "standard input: Bad file descriptor",
     );
     check_failure(
+        "pokyandi profile <&-",
+        "standard input: Bad file descriptor",
+    );
+    check_failure(
         "pokyandi make - /tmp/no-such.sheet <&-",
         "standard input: Bad file descriptor",
     );
@@ -64,7 +70,7 @@ fn folders_and_missing_files() {
     let folder = Folder::new();
     let [no_file, in_no_folder] = ["missing", "missing/line.sheet"].map(|name| folder.path(name));
     let here = folder.path("");
-    for subcommand in ["stations", "pegs", "elements", "check", "show"] {
+    for subcommand in ["stations", "pegs", "profile", "elements", "check", "show"] {
         for (path, words) in [(&no_file, "No such file"), (&here, "Is a directory")] {
             let run = run(&[subcommand.as_ref(), path.as_os_str()]);
             assert_eq!((run.status, run.out.len()), (Some(2), 0), "{subcommand}");

@@ -2,7 +2,9 @@
 
 use crate::run::{run, run_in_shell, top};
 
-const SUBCOMMANDS: [&str; 6] = ["stations", "pegs", "elements", "check", "make", "show"];
+const SUBCOMMANDS: [&str; 7] = [
+    "stations", "pegs", "profile", "elements", "check", "make", "show",
+];
 
 /// The commands of a help text's examples, each with what it prints.
 fn examples(help: &str) -> Vec<(String, String)> {
@@ -52,7 +54,7 @@ fn the_help_lists_the_subcommands() {
 
 #[test]
 fn wrong_usage_has_status_2_and_no_results() {
-    let lines: [&[&str]; 26] = [
+    let lines: [&[&str]; 33] = [
         &[],
         &["station"],
         &["--verbose"],
@@ -72,6 +74,13 @@ fn wrong_usage_has_status_2_and_no_results() {
         &["pegs", "--every", "20m", "--every", "20m"],
         &["pegs", "--as", "feet", "stations/case-01.sheet"],
         &["stations", "--every", "20m", "stations/case-01.sheet"],
+        &["profile", "--every", "0", "profile.txt"],
+        &["profile", "--from"],
+        &["profile", "--to", "13+000", "profile.txt"],
+        &["profile", "--to", "-5m", "profile.txt"],
+        &["profile", "--to", "13km", "--to", "13km", "profile.txt"],
+        &["profile", "--list", "a", "profile.txt"],
+        &["pegs", "--to", "500m", "stations/case-01.sheet"],
         &["elements"],
         &["elements", "--as", "km", "a.sheet"],
         &["check"],

@@ -7,6 +7,7 @@ mod help;
 mod made;
 mod pegs;
 mod points;
+mod profile;
 mod random_lines;
 mod run;
 mod several;
