@@ -7,7 +7,10 @@
 static const uint8_t SHEET[] = {0x10, 0x11, 0xA0, 0x00, 0x00, 0x00, 0x00, 0xF4, 0x24, 0x00};
 static const uint32_t LINE[] = {0, 70, 8, 0, 500000};
 static const int64_t POINTS[] = {0, 0, 300000, 400000};
+/* Speed 40, start 0, height 0, a grade of 1 percent, no vertex. */
+static const int64_t PROFILE[] = {40, 0, 0, 10000};
 #define POINT_NUMBERS (sizeof POINTS / sizeof *POINTS)
+#define PROFILE_NUMBERS (sizeof PROFILE / sizeof *PROFILE)
 
 static int wrong(const char *call, uint64_t answer, uint32_t refusal) {
     if (pokyandi_refusal(answer) == refusal && pokyandi_place(answer) == 0) {
@@ -35,5 +38,8 @@ int main(void) {
     faults += wrong("write into nothing", pokyandi_write(LINE, sizeof LINE / sizeof *LINE, NULL, 0), POKYANDI_SMALL_BUFFER);
     faults += wrong("line of no points", pokyandi_from_points(70, 8, 0, NULL, 0, NULL, 0, NULL, 0), POKYANDI_CURVE_COUNT);
     faults += wrong("line into nothing", pokyandi_from_points(70, 8, 0, POINTS, POINT_NUMBERS, NULL, 0, NULL, 0), POKYANDI_SMALL_BUFFER);
+    faults += wrong("height of no profile", pokyandi_height(NULL, 0, 0, NULL, 0), POKYANDI_CURVE_COUNT);
+    faults += wrong("height outside the profile", pokyandi_height(PROFILE, PROFILE_NUMBERS, 200000001, NULL, 0), POKYANDI_STATION);
+    faults += wrong("height into nothing", pokyandi_height(PROFILE, PROFILE_NUMBERS, 0, NULL, 0), POKYANDI_SMALL_BUFFER);
     return faults != 0;
 }

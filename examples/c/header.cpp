@@ -10,5 +10,6 @@ int main() {
     std::uint64_t answer = pokyandi_write(pokyandi_line, pokyandi_distance(0) + 1, sheet, sizeof sheet);
     bool done = pokyandi_refusal(answer) == pokyandi_reason && pokyandi_count(answer) == 10;
     bool told = pokyandi_place(pokyandi_check(sheet, 9)) == 0 && pokyandi_words(POKYANDI_VERSION)[0] == 'u';
-    return done && told && pokyandi_curve(1) == 5 && pokyandi_version() == POKYANDI_VERSION ? 0 : 1;
+    bool placed = pokyandi_curve(1) == 5 && pokyandi_vertex(1) == 4;
+    return done && told && placed && pokyandi_version() == POKYANDI_VERSION ? 0 : 1;
 }

@@ -1,4 +1,4 @@
-/* Prints every name of the header that the Rust crate has too, with its number, and the words of refusals 0 to 22.
+/* Prints every name of the header that the Rust crate has too, with its number, and the words of refusals 0 to 25.
  * bindings/rust/examples/names.rs prints the same from the crate. */
 #include "pokyandi.h"
 
@@ -20,6 +20,8 @@ static void show_sizes(void) {
     SHOW(TEXT_BYTES);
     SHOW(PEG_NUMBERS);
     SHOW(ELEMENT_NUMBERS);
+    SHOW(PROFILE_NUMBERS);
+    SHOW(HEIGHT_NUMBERS);
 }
 
 static void show_indexes(void) {
@@ -42,6 +44,13 @@ static void show_indexes(void) {
     SHOW(CURVE_DEFLECTION);
     SHOW(CURVE_RADIUS);
     SHOW(CURVE_SPIRAL);
+    SHOW(PROFILE_SPEED);
+    SHOW(PROFILE_START);
+    SHOW(PROFILE_HEIGHT);
+    SHOW(PROFILE_GRADE);
+    SHOW(VERTEX_STATION);
+    SHOW(VERTEX_GRADE);
+    SHOW(VERTEX_LENGTH);
     SHOW(RIGHT);
     SHOW(LEFT);
     SHOW(STRAIGHT);
@@ -51,6 +60,9 @@ static void show_indexes(void) {
     for (size_t i = 0; i <= 64; i++) {
         show("curve", pokyandi_curve(i));
         show("distance", pokyandi_distance(i));
+    }
+    for (size_t i = 1; i <= 33; i++) {
+        show("vertex", pokyandi_vertex(i));
     }
 }
 
@@ -76,7 +88,10 @@ static void show_refusals(void) {
     SHOW(COORDINATE);
     SHOW(NO_TURN);
     SHOW(WIDE_TURN);
-    for (uint32_t number = 0; number <= 22; number++) {
+    SHOW(VERTICAL_CURVE);
+    SHOW(GRADE);
+    SHOW(SIGHT);
+    for (uint32_t number = 0; number <= 25; number++) {
         printf("%" PRIu32 ": %s\n", number, pokyandi_words(number));
     }
 }

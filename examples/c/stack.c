@@ -1,9 +1,9 @@
-/* Measures how much stack a call takes: it is made on a stack filled with a pattern, with the sheet of each file, or with a line of 64
- * curves or its points, into no room and into enough. No call is made before, so that what the dynamic linker takes when memcpy is first
+/* Measures how much stack a call takes: it is made on a stack filled with a pattern, with the sheet of each file, with a line of 64
+ * curves or its points, or with a profile of 32 vertices, into no room and into enough. No call is made before, so that what the dynamic linker takes when memcpy is first
  * used counts too.
  *
  *     stack CALL FILE..     CALL is stations, check, text, peg, elements, read, write, rewrite,
- *                          from_points or version
+ *                          from_points, height or version
  *
  * Prints the most bytes. Exit status: 0 they are at most POKYANDI_STACK_BYTES, 1 they are more, 2 a call or file is none.
  */
@@ -18,6 +18,8 @@
 #define WORDS POKYANDI_STACK_BYTES
 /* um; in document 01's case 1 it lies on the spiral in. */
 #define STATION 339000000
+/* mm; behind every curve of the profile. */
+#define LAST_STATION 200000000
 
 static uint64_t stack[WORDS];
 static ucontext_t outside;
@@ -35,11 +37,13 @@ static int64_t points[POKYANDI_POINT_NUMBERS];
 static uint32_t curves[POKYANDI_CURVE_NUMBERS];
 static uint64_t row[POKYANDI_ROW_NUMBERS];
 static int64_t peg[POKYANDI_PEG_NUMBERS];
+static int64_t profile[POKYANDI_PROFILE_NUMBERS];
+static int64_t height[POKYANDI_HEIGHT_NUMBERS];
 static uint8_t bytes[POKYANDI_TEXT_BYTES];
 
-enum { STATIONS, CHECK, TEXT, PEG, ELEMENTS, READ, WRITE, REWRITE, FROM_POINTS, VERSION, CALLS };
-static const char *const NAMES[CALLS] = {"stations", "check", "text",    "peg",         "elements",
-                                         "read",     "write", "rewrite", "from_points", "version"};
+enum { STATIONS, CHECK, TEXT, PEG, ELEMENTS, READ, WRITE, REWRITE, FROM_POINTS, HEIGHT, VERSION, CALLS };
+static const char *const NAMES[CALLS] = {"stations", "check",   "text",        "peg",    "elements", "read",
+                                         "write",    "rewrite", "from_points", "height", "version"};
 
 static uint64_t make_call(void) {
     switch (call) {
@@ -54,6 +58,7 @@ static uint64_t make_call(void) {
     case FROM_POINTS:
         return pokyandi_from_points(40, 8, 0, points, POKYANDI_POINT_NUMBERS, curves, POKYANDI_CURVE_NUMBERS, line,
                                     roomy ? POKYANDI_LINE_NUMBERS : 0);
+    case HEIGHT: return pokyandi_height(profile, POKYANDI_PROFILE_NUMBERS, LAST_STATION, height, roomy ? POKYANDI_HEIGHT_NUMBERS : 0);
     default: return pokyandi_version();
     }
 }
@@ -107,6 +112,18 @@ static void make_points(void) {
     }
 }
 
+/* A profile of 32 vertices, up and down by 4 percent, 500 m apart. */
+static void make_profile(void) {
+    static const int64_t HEAD[] = {70, 0, -500000, 40000};
+    memcpy(profile, HEAD, sizeof HEAD);
+    for (size_t i = 1; i <= 32; i++) {
+        int64_t *vertex = profile + pokyandi_vertex(i);
+        vertex[POKYANDI_VERTEX_STATION] = 500000 * (int64_t)i;
+        vertex[POKYANDI_VERTEX_GRADE] = i % 2 ? -40000 : 40000;
+        vertex[POKYANDI_VERTEX_LENGTH] = 300000;
+    }
+}
+
 /* The call of this name, or CALLS. */
 static int call_named(const char *name) {
     int found = 0;
@@ -124,6 +141,7 @@ int main(int argc, char **argv) {
     }
     make_line();
     make_points();
+    make_profile();
     size_t most = 0;
     for (int i = 2; i < argc; i++) {
         int size = take_sheet("stack", argv[i], sheet);

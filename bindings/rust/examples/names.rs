@@ -1,8 +1,8 @@
 //! Prints every name of the crate that the C header has too, with its number,
-//! and the words of refusals 0 to 22. `examples/c/names.c` prints the same from
+//! and the words of refusals 0 to 25. `examples/c/names.c` prints the same from
 //! the header.
 
-use pokyandi::{curve, element, line, peg, Reason};
+use pokyandi::{curve, element, line, peg, profile, vertex, Reason};
 
 fn main() {
     show("version", pokyandi::version());
@@ -27,6 +27,8 @@ fn show_sizes() {
         ("TEXT_BYTES", pokyandi::TEXT_BYTES),
         ("PEG_NUMBERS", pokyandi::PEG_NUMBERS),
         ("ELEMENT_NUMBERS", pokyandi::ELEMENT_NUMBERS),
+        ("PROFILE_NUMBERS", pokyandi::PROFILE_NUMBERS),
+        ("HEIGHT_NUMBERS", pokyandi::HEIGHT_NUMBERS),
     ];
     show_all(&sizes);
 }
@@ -52,6 +54,13 @@ fn show_indexes() {
         ("CURVE_DEFLECTION", curve::DEFLECTION),
         ("CURVE_RADIUS", curve::RADIUS),
         ("CURVE_SPIRAL", curve::SPIRAL),
+        ("PROFILE_SPEED", profile::SPEED),
+        ("PROFILE_START", profile::START),
+        ("PROFILE_HEIGHT", profile::HEIGHT),
+        ("PROFILE_GRADE", profile::GRADE),
+        ("VERTEX_STATION", vertex::STATION),
+        ("VERTEX_GRADE", vertex::GRADE),
+        ("VERTEX_LENGTH", vertex::LENGTH),
     ];
     show_all(&indexes);
     show("RIGHT", curve::RIGHT.into());
@@ -68,6 +77,9 @@ fn show_indexes() {
     for i in 0..=64 {
         show_all(&[("curve", line::curve(i)), ("distance", line::distance(i))]);
     }
+    for i in 1..=33 {
+        show_all(&[("vertex", profile::vertex(i))]);
+    }
 }
 
 fn show_all(names: &[(&str, usize)]) {
@@ -82,7 +94,7 @@ fn show_refusals() {
     for reason in Reason::ALL {
         show(&in_capitals(&format!("{reason:?}")), reason.number().into());
     }
-    for number in 0..=22 {
+    for number in 0..=25 {
         let words = Reason::of(number).map_or("not refused", Reason::words);
         println!("{number}: {words}");
     }

@@ -1,5 +1,5 @@
-//! Stations of road alignments from packed sheets: safe functions over the
-//! proved static library `libpokyandi.a`, whose header is `include/pokyandi.h`.
+//! Stations of road alignments from packed sheets, and heights of profiles: safe
+//! functions over the proved static library `libpokyandi.a`, whose header is `include/pokyandi.h`.
 //!
 //! A call writes its count of entries at the front of the buffer that it is
 //! lent, leaves those behind them as they are, and answers the count. A refusal
@@ -27,6 +27,13 @@
 //! let count = pokyandi::from_points(70, 8, 0, &points, &[], &mut line).unwrap();
 //! assert_eq!(line[..count], [0, 70, 8, 0, 500_000]);
 //!
+//! // A profile at 40 km/h: start 0 at a height of 100 m, 3 percent up, and at 200 m
+//! // a crest of 80 m to 2 percent down. The height at 200 m, mm, is on the curve.
+//! let profile = [40, 0, 100_000, 30_000, 200_000, -20_000, 80_000];
+//! let mut height = [0; pokyandi::HEIGHT_NUMBERS];
+//! pokyandi::height(&profile, 200_000, &mut height).unwrap();
+//! assert_eq!(height, [105_500]);
+//!
 //! line[pokyandi::line::distance(0)] = 0;
 //! let refusal = pokyandi::write(&line[..count], &mut [0; 10]).unwrap_err();
 //! let words = "refused 8 at place 0: distance outside 1 to 20,000,000 mm";
@@ -37,10 +44,10 @@ mod calls;
 mod names;
 mod refusal;
 
-pub use calls::{check, elements, from_points, height, peg, read, rewrite, stations, text};
-pub use calls::{CURVE_NUMBERS, ELEMENT_NUMBERS, LINE_NUMBERS, PEG_NUMBERS};
-pub use calls::{version, write};
-pub use calls::{HEIGHT_NUMBERS, POINT_NUMBERS, PROFILE_NUMBERS, ROW_NUMBERS};
+pub use calls::{check, elements, from_points, height, peg, read};
+pub use calls::{rewrite, stations, text, version, write};
+pub use calls::{CURVE_NUMBERS, ELEMENT_NUMBERS, HEIGHT_NUMBERS, LINE_NUMBERS, PEG_NUMBERS};
+pub use calls::{POINT_NUMBERS, PROFILE_NUMBERS, ROW_NUMBERS};
 pub use calls::{SHEET_BYTES, TEXT_BYTES};
 pub use calls::{STACK_BYTES, VERSION};
 pub use names::{curve, element, line, peg, profile, vertex};
