@@ -1,6 +1,5 @@
 /* Pokyandi: the stations of a road alignment from its packed sheet (document 01), the element under a station, its line in numbers, a line
- * from the coordinates of its points, the elements of one curve,
- * the height of a profile at a station.
+ * from the coordinates of its points, the elements of one curve, the height of a profile at a station.
  *
  * Link target/staticlib/libpokyandi.a, which `rt staticlib pokyandi` makes for Linux on x86-64. There is no state; any number of
  * threads may call at once. A call allocates nothing and takes at most POKYANDI_STACK_BYTES of stack.

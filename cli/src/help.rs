@@ -175,22 +175,22 @@ one that is refused or faulty or cannot be read does not stop the others. More t
 1000000 distances are an error.
 
     $ pokyandi profile --every 50m --as km --to 12+620km samples/profile.txt
-          STATION(km) POINT    ELEMENT NUMBER   HEIGHT(m)
-        12+340.500000 START    grade        0     845.250
-        12+350.000000 -        grade        0     844.917
-        12+400.000000 -        grade        0     843.167
-        12+450.000000 -        grade        0     841.417
-        12+480.000000 BVC      sag          1     840.367
-        12+500.000000 -        sag          1     839.861
-        12+516.129000 LOW      sag          1     839.735
-        12+520.000000 MID      sag          1     839.742
-        12+550.000000 -        sag          1     840.290
-        12+560.000000 EVC      grade        1     840.667
-        12+600.000000 -        grade        1     842.367
-        12+620.000000 -        grade        1     843.217
+          STATION(km) POINT     ELEMENT NUMBER   HEIGHT(m)
+        12+340.500000 START     grade        0     845.250
+        12+350.000000 -         grade        0     844.917
+        12+400.000000 -         grade        0     843.167
+        12+450.000000 -         grade        0     841.417
+        12+480.000000 BVC       sag          1     840.367
+        12+500.000000 -         sag          1     839.861
+        12+516.129000 LOW       sag          1     839.735
+        12+520.000000 MID       sag          1     839.742
+        12+550.000000 -         sag          1     840.290
+        12+560.000000 EVC       grade        1     840.667
+        12+600.000000 -         grade        1     842.367
+        12+620.000000 -         grade        1     843.217
     $ pokyandi profile --from 13+000km --to 13+000km samples/profile.txt
-           STATION(m) POINT    ELEMENT NUMBER   HEIGHT(m)
-         13000.000000 -        grade        1     859.367
+           STATION(m) POINT     ELEMENT NUMBER   HEIGHT(m)
+         13000.000000 -         grade        1     859.367
 ";
 
 pub const ELEMENTS: &str = "\

@@ -189,7 +189,7 @@ fn row(
     number: impl std::fmt::Display,
     height: &str,
 ) -> String {
-    format!("{station:>17} {points:<8} {element:<7} {number:>6} {height:>11}\n")
+    format!("{station:>17} {points:<9} {element:<7} {number:>6} {height:>11}\n")
 }
 
 /// The element under a station of mm, and its number: grade 0 to n, or crest or sag

@@ -310,7 +310,7 @@ fn where_the_list_begins_and_ends() {
     ])
     .text();
     let wanted =
-        |line: &&str| line.contains("sag          1") || line.contains("EVC      grade        1");
+        |line: &&str| line.contains("sag          1") || line.contains("EVC       grade        1");
     let lines: Vec<&str> = all.lines().filter(wanted).collect();
     assert_eq!(part.lines().skip(1).collect::<Vec<_>>(), lines);
 
@@ -322,17 +322,20 @@ fn where_the_list_begins_and_ends() {
     let one = ["--from=13+000km", "--to=13+000km"];
     assert_eq!(
         last(&one, ROAD),
-        "     13000.000000 -        grade        1     859.367"
+        "     13000.000000 -         grade        1     859.367"
     );
     let far = ["--to=200+000km", "--every=1000m"];
     assert_eq!(
         last(&far, ROAD),
-        "    200000.000000 -        grade        3   -1950.183"
+        "    200000.000000 -         grade        3   -1950.183"
     );
     // A curve may end beyond the last station that has a height.
     let at_the_end = ROAD.replace("13+420km", "200+000km");
     let end = last(&["--every=1000m"], &at_the_end);
-    assert_eq!(end, "    200000.000000 MID      sag          3  -10345.945");
+    assert_eq!(
+        end,
+        "    200000.000000 MID       sag          3  -10345.945"
+    );
 }
 
 #[test]
