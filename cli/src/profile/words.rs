@@ -77,33 +77,43 @@ fn out_of_range(profile: &Profile) -> String {
 
 /// Why no curve of this length may stand at vertex i.
 fn no_curve(profile: &Profile, i: usize) -> String {
+    let length = profile.vertex(i).length;
+    if ProfileField::Length.is_missed_by(length) {
+        ProfileField::Length.missed(length)
+    } else if length % 2 != 0 {
+        odd_curve(length)
+    } else {
+        overlapping_curve(profile, i)
+    }
+}
+
+fn odd_curve(length: i64) -> String {
+    let [less, found, more] = [length - 1, length, length + 1].map(metres_of_signed_mm);
+    format!(
+        "the curve is {found}; its mm are an even number, half of them on each side of the vertex: \
+         take {less} or {more}"
+    )
+}
+
+/// That the curve of vertex i begins before the one before it ends, or before the start.
+fn overlapping_curve(profile: &Profile, i: usize) -> String {
     let vertex = profile.vertex(i);
-    let found = format!("the curve is {}", metres_of_signed_mm(vertex.length));
-    if ProfileField::Length.is_missed_by(vertex.length) {
-        return ProfileField::Length.missed(vertex.length);
-    }
-    if vertex.length % 2 != 0 {
-        let nearest = [vertex.length - 1, vertex.length + 1].map(metres_of_signed_mm);
-        let nearest = nearest.join(" or ");
-        return format!(
-            "{found}; its mm are an even number, half of them on each side of the vertex: \
-             take {nearest}"
-        );
-    }
-    let (before, behind) = match i {
-        1 => (profile.start(), "the start of the profile".to_string()),
-        _ => {
-            let before = i - 1;
-            let end = profile.vertex(before).end();
-            (end, format!("the end of curve {before}"))
-        }
+    let before = i - 1;
+    let (bound, bound_name, help) = match before {
+        0 => (profile.start(), "the start".to_string(), String::new()),
+        _ => (
+            profile.vertex(before).end(),
+            format!("the end of curve {before}"),
+            format!(", or shorten curve {before}"),
+        ),
     };
-    let [begin, before] = [vertex.begin(), before].map(station);
     let room = match limits::longest_curve(profile, i) {
         Some(longest) => format!("{} at most fit here", metres_of_signed_mm(longest)),
-        None => "no curve fits here".into(),
+        None => format!("no curve fits here: move the vertex on{help}"),
     };
-    format!("{found} and begins at {begin}, before {behind} at {before}; {room}")
+    let [begin, bound] = [vertex.begin(), bound].map(station);
+    let found = metres_of_signed_mm(vertex.length);
+    format!("the curve is {found} and begins at {begin}, before {bound_name} at {bound}; {room}")
 }
 
 /// That the curve of a vertex is shorter than sight needs.
