@@ -180,4 +180,42 @@ mod tests {
             assert_eq!(stopping_distance(speed), distance);
         }
     }
+
+    /// Every profile of a few numbers at and beyond the limits has words, with the
+    /// number and the place of the library.
+    #[test]
+    fn every_refusal_has_words() {
+        const EDGES: [i64; 9] = [
+            i64::MIN,
+            -1,
+            0,
+            40,
+            81,
+            120_001,
+            2_000_000,
+            200_000_001,
+            i64::MAX,
+        ];
+        let mut told = std::collections::BTreeSet::new();
+        for index in 0..13 {
+            for number in EDGES {
+                let good = [40, 0, 0, -35_000, 300_000, 42_500, 80_000];
+                let more = [900_000, -60_000, 120_000, 1_200_000, -15_000, 60_000];
+                let numbers = [&good[..], &more].concat();
+                let profile = Profile { numbers }.with(index, number);
+                if let Err(refusal) = profile.check() {
+                    let (number, words) = (refusal.reason.number(), of_profile(&profile, refusal));
+                    let place = match refusal.place {
+                        0 => String::new(),
+                        place => format!(" at vertex {place}"),
+                    };
+                    let head = format!("refused {number}{place}: ");
+                    assert!(words.starts_with(&head), "{profile:?}: {words}");
+                    assert!(!words.contains(refusal.reason.words()), "{words}");
+                    told.insert(number);
+                }
+            }
+        }
+        assert!(told.into_iter().eq([4, 6, 21, 22, 23]));
+    }
 }
