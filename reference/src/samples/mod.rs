@@ -13,6 +13,8 @@ pub mod mountain_road;
 pub mod named;
 pub mod peg_edges;
 pub mod point_edges;
+pub mod profile_edges;
+pub mod profiles;
 pub mod ranges;
 pub mod roads;
 pub mod sheet_edges;
