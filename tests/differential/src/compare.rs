@@ -1,12 +1,12 @@
 //! The comparison: both sides get the same input, and all that they answer and
 //! write is compared.
 
+use crate::height_laws::broken_height_law;
 use crate::input::{Input, Request};
 use crate::laws::broken_law;
 use crate::memory::{Entry, EntryDifference, Memory};
 use crate::side::{Answer, Reference, Side};
 use reference::report::refusal_number;
-use reference::samples::surveys::Survey;
 use std::fmt;
 use std::hint::black_box;
 
@@ -17,13 +17,13 @@ pub enum Difference {
     Answer,
     /// An entry of the lent memory, or a guard of it.
     Lent(EntryDifference),
-    /// An entry of the given sheet, line, points or curves, or a guard of it, that
-    /// was changed.
+    /// An entry of the given sheet, line, points, curves or profile, or a guard of it,
+    /// that was changed.
     Given(EntryDifference),
     /// Writing what was read, or reading what was written, does not give the
     /// sheet or line back.
     NotBack,
-    /// A law of lines from coordinates is broken.
+    /// A law of lines from coordinates or of heights is broken.
     Law(&'static str),
 }
 
@@ -101,20 +101,25 @@ pub fn compare(library: &dyn Side, input: &Input) -> Comparison {
                 let call = |side: &dyn Side, line: &mut [u32]| {
                     side.line_from_points(survey.heading, points, curves, line)
                 };
-                lawful(both(input, library, call).0, library, survey)
+                lawful(both(input, library, call).0, || broken_law(library, survey))
+            })
+        }),
+        Request::Height(profile, station) => with_given(input, profile, |profile| {
+            let call = |side: &dyn Side, height: &mut [i64]| side.height(profile, *station, height);
+            lawful(both(input, library, call).0, || {
+                broken_height_law(library, profile, *station)
             })
         }),
     }
 }
 
-/// Sees that the library keeps the laws of lines from coordinates, where the sides
-/// agree.
-fn lawful(comparison: Comparison, library: &dyn Side, survey: &Survey) -> Comparison {
+/// Sees that the library keeps the laws of the call, where the sides agree.
+fn lawful(comparison: Comparison, broken_law: impl FnOnce() -> Option<&'static str>) -> Comparison {
     if comparison.difference.is_some() {
         return comparison;
     }
     Comparison {
-        difference: broken_law(library, survey).map(Difference::Law),
+        difference: broken_law().map(Difference::Law),
         ..comparison
     }
 }
@@ -212,6 +217,7 @@ mod tests {
     use reference::line::Line;
     use reference::refusal::refuse;
     use reference::samples::point_edges::case_1;
+    use reference::samples::profile_edges::crest;
     use reference::samples::sheet_fields::sheet_of;
 
     /// A count that is one too large.
@@ -241,10 +247,10 @@ mod tests {
         answer
     }
 
-    /// Another first entry though the call is refused.
+    /// Another first entry, where there is one, though the call is refused.
     fn refused<T: From<u8>>(answer: Answer, lent: &mut [T]) -> Answer {
-        if answer.is_err() {
-            lent[0] = T::from(0x5A);
+        if let (Err(_), Some(first)) = (answer, lent.first_mut()) {
+            *first = T::from(0x5A);
         }
         answer
     }
@@ -281,6 +287,7 @@ mod tests {
         requests.push(Request::Elements(Line::case_1().curve(1)));
         requests.push(Request::Write(Line::case_1().numbers()));
         requests.push(Request::FromPoints(case_1()));
+        requests.push(Request::Height(crest().numbers(), 200_000));
         assert_eq!(requests.len(), Call::ALL.len());
         requests
     }
@@ -352,11 +359,19 @@ mod tests {
                 found(spoilt(remainder, remainder, remainder, remainder), 1),
                 Some(needed)
             );
+            // A height needs one number: with fewer there is none to change.
             assert_eq!(
                 found(spoilt(refused, refused, refused, refused), -1),
-                Some(0)
+                (needed > 1).then_some(0)
             );
         }
+        let outside = Request::Height(crest().numbers(), u64::MAX);
+        let found = difference(
+            &spoilt(refused, refused, refused, refused),
+            &outside,
+            Room::Needed(0),
+        );
+        assert_eq!(index(found), Some(0));
     }
 
     /// Each call is as it should be, but the one that undoes it is not.
@@ -383,7 +398,8 @@ mod tests {
         }
     }
 
-    /// The answer is as it should be, but a line of full room is not.
+    /// The answer is as it should be, but a line of full room is not, nor the height
+    /// of a profile that starts 1 mm higher.
     #[test]
     fn broken_laws_are_found() {
         let library = Spoilt {
@@ -395,6 +411,17 @@ mod tests {
         };
         let left = Request::FromPoints(case_1().mirrored());
         let found = difference(&library, &left, Room::Needed(0));
+        assert!(matches!(found, Some(Difference::Law(_))), "{found:?}");
+        let library = Spoilt {
+            height: |profile, station, numbers| {
+                let count = Reference.height(profile, station, numbers)?;
+                numbers[0] += i64::from(profile[2] == 1);
+                Ok(count)
+            },
+            ..Spoilt::NOT
+        };
+        let from_0 = Request::Height(crest().numbers(), 200_000);
+        let found = difference(&library, &from_0, Room::Needed(0));
         assert!(matches!(found, Some(Difference::Law(_))), "{found:?}");
     }
 

@@ -1,4 +1,5 @@
-//! One input: a call, its sheet, curve, line or points, and the room that is lent.
+//! One input: a call, its sheet, curve, line, points or profile, and the room that is
+//! lent.
 
 use crate::side::{stretches_of, text_of};
 use reference::curve::Curve;
@@ -20,10 +21,11 @@ pub enum Call {
     Write,
     Peg,
     FromPoints,
+    Height,
 }
 
 impl Call {
-    pub const ALL: [Call; 9] = [
+    pub const ALL: [Call; 10] = [
         Call::Stations,
         Call::Check,
         Call::Rewrite,
@@ -33,6 +35,7 @@ impl Call {
         Call::Write,
         Call::Peg,
         Call::FromPoints,
+        Call::Height,
     ];
 
     pub fn name(self) -> &'static str {
@@ -46,6 +49,7 @@ impl Call {
             Call::Write => "write",
             Call::Peg => "peg",
             Call::FromPoints => "points",
+            Call::Height => "height",
         }
     }
 
@@ -61,6 +65,7 @@ impl Call {
             Call::Write => 740,
             Call::Peg => 12,
             Call::FromPoints => 340,
+            Call::Height => 6,
         }
     }
 
@@ -75,12 +80,13 @@ impl Call {
             Call::Write => vec![3, 4, 5, 6, 8, 9, 10, 11, 16],
             Call::Peg => (1..=17).collect(),
             Call::FromPoints => vec![3, 4, 5, 6, 8, 10, 11, 12, 13, 14, 15, 16, 18, 19, 20],
+            Call::Height => vec![3, 4, 6, 16, 17, 21, 22, 23],
         }
     }
 }
 
-/// A call with its sheet, its curve, the numbers of its line or its points; a peg
-/// with its station too.
+/// A call with its sheet, its curve, the numbers of its line, its points or the
+/// numbers of its profile; a peg and a height with the station too.
 #[derive(Clone, Debug, PartialEq, Eq)]
 pub enum Request {
     Stations(Vec<u8>),
@@ -92,6 +98,7 @@ pub enum Request {
     Write(Vec<u32>),
     Peg(Vec<u8>, u64),
     FromPoints(Survey),
+    Height(Vec<i64>, u64),
 }
 
 impl Request {
@@ -124,6 +131,7 @@ impl Request {
             Request::Write(_) => Call::Write,
             Request::Peg(..) => Call::Peg,
             Request::FromPoints(_) => Call::FromPoints,
+            Request::Height(..) => Call::Height,
         }
     }
 
@@ -131,7 +139,7 @@ impl Request {
     /// most 64; 0 where it is not said.
     pub fn curves(&self) -> usize {
         match self {
-            Request::Elements(_) => 0,
+            Request::Elements(_) | Request::Height(..) => 0,
             Request::Stations(sheet)
             | Request::Check(sheet)
             | Request::Rewrite(sheet)
@@ -155,6 +163,7 @@ impl Request {
             Request::Text(sheet) => text_of(sheet).len(),
             Request::Read(_) | Request::FromPoints(_) => number_count(n),
             Request::Peg(..) => pokyandi::PEG_NUMBERS,
+            Request::Height(..) => pokyandi::HEIGHT_NUMBERS,
         }
     }
 }
@@ -205,6 +214,7 @@ mod tests {
     use super::*;
     use reference::line::Line;
     use reference::samples::point_edges::case_1;
+    use reference::samples::profile_edges::crest;
     use reference::samples::sheet_fields::sheet_of;
 
     #[test]
@@ -218,6 +228,7 @@ mod tests {
         let curve = Request::Elements(Line::case_1().curve(1));
         assert_eq!(curve.needed(), 6);
         assert_eq!(Request::FromPoints(case_1()).needed(), 10);
+        assert_eq!(Request::Height(crest().numbers(), 0).needed(), 1);
     }
 
     #[test]
@@ -241,6 +252,7 @@ mod tests {
         };
         let needs = [0, 5, 7, 132, 134, 1_000].map(of_points);
         assert_eq!(needs, [5, 5, 10, 325, 325, 325]);
+        assert_eq!(Request::Height(vec![], 0).needed(), 1);
     }
 
     #[test]

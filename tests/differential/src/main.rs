@@ -6,6 +6,7 @@
 mod accuracy;
 mod arguments;
 mod compare;
+mod height_laws;
 mod input;
 mod inputs;
 mod laws;

@@ -71,8 +71,8 @@ fn report(inputs: &Inputs, index: u64, input: &Input, result: &Option<Comparison
     rows.concat()
 }
 
-/// The curve, the numbers of the line, the points, or the sheet and what the
-/// reference reads in it.
+/// The curve, the numbers of the line or profile, the points, or the sheet and what
+/// the reference reads in it.
 fn request_rows(request: &Request) -> Vec<String> {
     match request {
         Request::Elements(curve) => vec![row("curve A R L", curve)],
@@ -88,6 +88,9 @@ fn request_rows(request: &Request) -> Vec<String> {
         }
         Request::Write(line) => vec![row("line", joined(line))],
         Request::FromPoints(survey) => survey_rows(survey),
+        Request::Height(profile, station) => {
+            vec![row("profile", joined(profile)), row("station", station)]
+        }
     }
 }
 
@@ -150,7 +153,7 @@ mod tests {
     use super::*;
     use crate::input::{Call, Room};
     use crate::side::Library;
-    use crate::spoilt::{Spoilt, PEG_FAULTS, POINT_FAULTS};
+    use crate::spoilt::{Spoilt, HEIGHT_FAULTS, PEG_FAULTS, POINT_FAULTS};
     use reference::refusal::refuse;
 
     #[test]
@@ -246,6 +249,25 @@ mod tests {
                 assert!(found.contains("\ncall         points\n"), "{found}");
                 assert!(found.contains("\npoints       "), "{found}");
                 assert!(found.contains("\ncurves R L   "), "{found}");
+            }
+        }
+    }
+
+    /// Each fault of heights likewise.
+    #[test]
+    fn faulty_heights_are_reported() {
+        let inputs = Inputs::of(1);
+        let kinds = indexes_of(&inputs, Call::Height);
+        for (fault, height) in HEIGHT_FAULTS {
+            let library = Spoilt {
+                height,
+                ..Spoilt::NOT
+            };
+            for indexes in &kinds {
+                let found = first_report(&inputs, indexes, &library).expect(fault);
+                assert!(found.contains("\ncall         height\n"), "{found}");
+                assert!(found.contains("\nprofile      "), "{found}");
+                assert!(found.contains("\nstation      "), "{found}");
             }
         }
     }

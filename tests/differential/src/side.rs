@@ -6,6 +6,7 @@ use reference::lent::fill;
 use reference::line_numbers;
 use reference::pegs::{peg, stretches, Stretch};
 use reference::points::{from_points, Heading};
+use reference::profile::height;
 use reference::refusal::Refusal;
 use reference::report::report;
 use reference::samples::surveys::Survey;
@@ -15,7 +16,8 @@ use reference::stations::stations;
 /// The count of entries that a call wrote, or its refusal.
 pub type Answer = Result<usize, Refusal>;
 
-/// The calls of `include/pokyandi.h` that take a sheet, a curve, a line or points.
+/// The calls of `include/pokyandi.h` that take a sheet, a curve, a line, points or a
+/// profile.
 pub trait Side {
     fn stations(&self, sheet: &[u8], row: &mut [u64]) -> Answer;
     fn check(&self, sheet: &[u8]) -> Answer;
@@ -32,6 +34,7 @@ pub trait Side {
         curves: &[u32],
         line: &mut [u32],
     ) -> Answer;
+    fn height(&self, profile: &[i64], station: u64, numbers: &mut [i64]) -> Answer;
 }
 
 /// The static library, called by way of its Rust crate.
@@ -78,6 +81,10 @@ impl Side for Library {
         line: &mut [u32],
     ) -> Answer {
         answer_of(pokyandi::from_points(v, e, start, points, curves, line))
+    }
+
+    fn height(&self, profile: &[i64], station: u64, numbers: &mut [i64]) -> Answer {
+        answer_of(pokyandi::height(profile, station, numbers))
     }
 }
 
@@ -138,6 +145,10 @@ impl Side for Reference {
     ) -> Answer {
         from_points(heading, points, curves, line)
     }
+
+    fn height(&self, profile: &[i64], station: u64, numbers: &mut [i64]) -> Answer {
+        height(profile, station, numbers)
+    }
 }
 
 /// The text of a sheet of any length. `report` looks at 707 bytes only, as the
@@ -166,6 +177,13 @@ pub fn line_of(side: &dyn Side, survey: &Survey) -> Result<Vec<u32>, Refusal> {
     let mut line = [0; pokyandi::LINE_NUMBERS];
     let count = side.line_from_points(*heading, points, curves, &mut line)?;
     Ok(line[..count].to_vec())
+}
+
+/// The height that a side gives of a profile.
+pub fn height_of(side: &dyn Side, profile: &[i64], station: u64) -> Result<i64, Refusal> {
+    let mut numbers = [0; pokyandi::HEIGHT_NUMBERS];
+    side.height(profile, station, &mut numbers)?;
+    Ok(numbers[0])
 }
 
 #[cfg(test)]
@@ -263,6 +281,25 @@ mod tests {
     fn case_1_of_both_sides() {
         check_case_1(&Reference);
         check_case_1(&Library);
+    }
+
+    /// 2 % up and 3 % down on a curve of 100 m: its ends, its vertex and its highest
+    /// point, as worked by hand.
+    #[test]
+    fn crest_of_both_sides() {
+        let profile = [40, 0, 100_000, 20_000, 200_000, -30_000, 100_000];
+        for side in [&Reference as &dyn Side, &Library] {
+            let height = |station| height_of(side, &profile, station);
+            let heights = [0, 150_000, 190_000, 200_000, 250_000].map(height);
+            let expected = [100_000, 103_000, 103_400, 103_375, 102_500];
+            assert_eq!(heights, expected.map(Ok));
+            assert_eq!(height(200_000_001), refuse(17, 0));
+            let mut numbers = [7; 2];
+            assert_eq!(side.height(&profile, 0, &mut numbers), Ok(1));
+            assert_eq!(numbers, [100_000, 7]);
+            assert_eq!(side.height(&profile, 0, &mut []), refuse(16, 0));
+            assert_eq!(height_of(side, &profile[..6], 0), refuse(3, 0));
+        }
     }
 
     /// Whatever stands behind byte 707 changes nothing: the sheet is refused by

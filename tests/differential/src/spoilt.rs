@@ -1,13 +1,16 @@
 //! A side for tests of the comparison: the reference, its answers and what it
-//! wrote changed; and faults of pegs and of lines from coordinates.
+//! wrote changed; and faults of pegs, of lines from coordinates and of heights.
 
 use crate::side::{stretches_of, Answer, Reference, Side};
 use reference::curve::Curve;
 use reference::line::LEFT;
 use reference::points::{reached, Heading, GREATEST_COORDINATE, GREATEST_TURN};
+use reference::profile::{Profile, STATIONS};
 use reference::refusal::{refuse, Refusal};
 use reference::road_tables::DesignSpeed;
+use reference::samples::profiles::twice_factor;
 use reference::sheet;
+use reference::sight::stopping_distance;
 
 /// How the answer and the lent entries of a call are changed.
 pub type Change<T> = fn(Answer, &mut [T]) -> Answer;
@@ -18,6 +21,9 @@ pub type PegCall = fn(&[u8], u64, &mut [i64]) -> Answer;
 /// How a line is made of its points.
 pub type PointsCall = fn(Heading, &[i64], &[u32], &mut [u32]) -> Answer;
 
+/// How a height is worked out.
+pub type HeightCall = fn(&[i64], u64, &mut [i64]) -> Answer;
+
 pub struct Spoilt {
     /// Of calls that are lent a row or the numbers of elements.
     pub numbers: Change<u64>,
@@ -25,12 +31,14 @@ pub struct Spoilt {
     pub bytes: Change<u8>,
     /// Of `read` and `line_from_points`, which are lent the numbers of a line.
     pub line: Change<u32>,
-    /// Of `peg`, which is lent signed numbers.
+    /// Of `peg` and `height`, which are lent signed numbers.
     pub signed: Change<i64>,
     /// Before that, the peg itself.
     pub peg: PegCall,
     /// The same of the line that is made of points.
     pub points: PointsCall,
+    /// The same of the height.
+    pub height: HeightCall,
 }
 
 impl Spoilt {
@@ -44,6 +52,7 @@ impl Spoilt {
         points: |heading, points, curves, line| {
             Reference.line_from_points(heading, points, curves, line)
         },
+        height: |profile, station, numbers| Reference.height(profile, station, numbers),
     };
 }
 
@@ -88,6 +97,10 @@ impl Side for Spoilt {
         line: &mut [u32],
     ) -> Answer {
         (self.line)((self.points)(heading, points, curves, line), line)
+    }
+
+    fn height(&self, profile: &[i64], station: u64, numbers: &mut [i64]) -> Answer {
+        (self.signed)((self.height)(profile, station, numbers), numbers)
     }
 }
 
@@ -354,5 +367,239 @@ fn room_first(heading: Heading, points: &[i64], curves: &[u32], line: &mut [u32]
             number: 16,
             place: 0,
         })
+    })
+}
+
+/// Faults of heights.
+pub const HEIGHT_FAULTS: [(&str, HeightCall); 15] = [
+    ("a height is rounded toward zero", toward_zero),
+    ("a height is rounded to the nearest", to_nearest),
+    ("g has the other sign", other_sign),
+    ("heights of vertices are rounded", rounded_vertices),
+    ("21 comes before 22", curves_first),
+    ("the place of the first grade is 1", first_grade_at_1),
+    ("curves that touch are refused", without_touching),
+    ("a curve may begin before the start", without_start),
+    ("a curve of just the length is refused", longer_than_sight),
+    ("the cases are exchanged", other_cases),
+    ("3.5 D is left out", without_distance),
+    ("crest and sag are exchanged", other_side),
+    ("17 comes before 23", station_first),
+    (
+        "stations behind 200,000,000 are accepted",
+        without_end_of_profile,
+    ),
+    ("16 comes before 17", room_before_station),
+];
+
+/// Millionths in a mm.
+const MILLION: i128 = 1_000_000;
+
+/// Another height where there is one.
+fn other_height(
+    profile: &[i64],
+    station: u64,
+    numbers: &mut [i64],
+    other: fn(&Profile, i64) -> i128,
+) -> Answer {
+    let count = Reference.height(profile, station, numbers)?;
+    let profile = Profile::of_numbers(profile)?;
+    numbers[0] = other(&profile, station as i64) as i64;
+    Ok(count)
+}
+
+fn toward_zero(profile: &[i64], station: u64, numbers: &mut [i64]) -> Answer {
+    other_height(profile, station, numbers, |profile, station| {
+        let (upper, lower) = profile.exact_height(station);
+        upper / lower
+    })
+}
+
+fn to_nearest(profile: &[i64], station: u64, numbers: &mut [i64]) -> Answer {
+    other_height(profile, station, numbers, |profile, station| {
+        let (upper, lower) = profile.exact_height(station);
+        (2 * upper + lower).div_euclid(2 * lower)
+    })
+}
+
+/// As far above the incoming grade as it should be below it.
+fn other_sign(profile: &[i64], station: u64, numbers: &mut [i64]) -> Answer {
+    other_height(profile, station, numbers, |profile, station| {
+        let (upper, lower) = profile.exact_height(station);
+        let mut curves = profile.vertices.iter();
+        let Some(i) = curves.position(|v| (v.begin()..=v.end()).contains(&station)) else {
+            return upper.div_euclid(lower);
+        };
+        let ahead = i128::from(station - profile.vertices[i].station);
+        let grade = i128::from(profile.grades()[i]);
+        let on_grade = profile.vertex_heights()[i + 1] + grade * ahead;
+        (2 * on_grade * lower - upper * MILLION).div_euclid(lower * MILLION)
+    })
+}
+
+fn rounded_vertices(profile: &[i64], station: u64, numbers: &mut [i64]) -> Answer {
+    other_height(profile, station, numbers, |profile, station| {
+        let heights = profile.vertex_heights();
+        let mut vertices = profile.vertices.iter();
+        // The last that counts at this station.
+        let last = vertices.position(|v| station < v.begin());
+        let last = last.unwrap_or(profile.vertices.len());
+        let rounded = heights[..=last].windows(2).fold(heights[0], |height, two| {
+            (height + two[1] - two[0]).div_euclid(MILLION) * MILLION
+        });
+        let (upper, lower) = profile.exact_height(station);
+        (upper * MILLION + (rounded - heights[last]) * lower).div_euclid(lower * MILLION)
+    })
+}
+
+/// The reference's answer, another one for some of its refusals.
+fn height_refused_otherwise(
+    profile: &[i64],
+    station: u64,
+    numbers: &mut [i64],
+    other: impl Fn(Refusal, Profile) -> Option<Answer>,
+) -> Answer {
+    Reference
+        .height(profile, station, numbers)
+        .or_else(|refusal| {
+            let read = Profile::of_numbers(profile).ok();
+            let other = read.and_then(|profile| other(refusal, profile));
+            other.unwrap_or(Err(refusal))
+        })
+}
+
+fn curves_first(profile: &[i64], station: u64, numbers: &mut [i64]) -> Answer {
+    height_refused_otherwise(profile, station, numbers, |refusal, mut profile| {
+        profile.grade = 0;
+        for vertex in &mut profile.vertices {
+            vertex.grade = 0;
+        }
+        let level = profile.check().err()?;
+        (refusal.number == 22 && level.number == 21).then_some(Err(level))
+    })
+}
+
+fn first_grade_at_1(profile: &[i64], station: u64, numbers: &mut [i64]) -> Answer {
+    height_refused_otherwise(profile, station, numbers, |refusal, _| {
+        let first = refusal.number == 22 && refusal.place == 0;
+        first.then_some(refuse(22, 1))
+    })
+}
+
+/// What passes the checks up to 21.
+fn up_to_sight(profile: &[i64]) -> Option<Profile> {
+    let profile = Profile::of_numbers(profile).ok()?;
+    let refusal = profile.check().err();
+    let passes = refusal.is_none_or(|refusal| refusal.number == 23);
+    passes.then_some(profile)
+}
+
+fn without_touching(profile: &[i64], station: u64, numbers: &mut [i64]) -> Answer {
+    if let Some(profile) = up_to_sight(profile) {
+        let curves = profile.vertices.windows(2);
+        let mut pairs = curves.map(|two| (two[0].end(), two[1].begin()));
+        if let Some(i) = pairs.position(|(end, begin)| end == begin) {
+            return refuse(21, i + 2);
+        }
+    }
+    Reference.height(profile, station, numbers)
+}
+
+fn without_start(profile: &[i64], station: u64, numbers: &mut [i64]) -> Answer {
+    height_refused_otherwise(profile, station, numbers, |refusal, mut profile| {
+        profile.start = 0;
+        let passes = profile.check() != Err(refusal);
+        (refusal
+            == Refusal {
+                number: 21,
+                place: 1,
+            }
+            && passes)
+            .then_some(Ok(1))
+    })
+}
+
+/// The answer where another rule tells whether a length, mm, is enough for sight.
+fn by_other_sight(
+    profile: &[i64],
+    station: u64,
+    numbers: &mut [i64],
+    is_enough: fn(i128, i64, i128) -> bool,
+) -> Answer {
+    let other = up_to_sight(profile).map(|profile| {
+        let d = stopping_distance(profile.v).expect("the speed has passed");
+        let mut vertices = profile.vertices.iter().zip(profile.grades());
+        vertices.position(|(vertex, incoming)| {
+            !is_enough(vertex.length.into(), incoming - vertex.grade, d)
+        })
+    });
+    match other {
+        Some(Some(i)) => refuse(23, i + 1),
+        // The height is of no account: the answers differ.
+        Some(None) => height_refused_otherwise(profile, station, numbers, |refusal, _| {
+            (refusal.number == 23).then_some(Ok(1))
+        }),
+        None => Reference.height(profile, station, numbers),
+    }
+}
+
+/// By how much a length exceeds the least of the first case and of the second, each
+/// times what it is divided by; `factor` is twice 412 or twice 122 + 3.5 D.
+fn excesses(length: i128, g: i64, d: i128, factor: i128) -> [i128; 2] {
+    let size = i128::from(g.abs());
+    [
+        length * 5 * factor - d * d * size,
+        length * size - 2_000 * d * size + 5_000_000 * factor,
+    ]
+}
+
+/// That of the case which counts.
+fn excess(length: i128, g: i64, d: i128, factor: i128) -> i128 {
+    excesses(length, g, d, factor)[usize::from(1_000 * d > length)]
+}
+
+fn longer_than_sight(profile: &[i64], station: u64, numbers: &mut [i64]) -> Answer {
+    by_other_sight(profile, station, numbers, |length, g, d| {
+        g == 0 || excess(length, g, d, twice_factor(d, g)) > 0
+    })
+}
+
+fn other_cases(profile: &[i64], station: u64, numbers: &mut [i64]) -> Answer {
+    by_other_sight(profile, station, numbers, |length, g, d| {
+        let excesses = excesses(length, g, d, twice_factor(d, g));
+        g == 0 || excesses[usize::from(1_000 * d <= length)] >= 0
+    })
+}
+
+fn without_distance(profile: &[i64], station: u64, numbers: &mut [i64]) -> Answer {
+    by_other_sight(profile, station, numbers, |length, g, d| {
+        let factor = if g > 0 { 2 * 412 } else { 2 * 122 };
+        g == 0 || excess(length, g, d, factor) >= 0
+    })
+}
+
+fn other_side(profile: &[i64], station: u64, numbers: &mut [i64]) -> Answer {
+    by_other_sight(profile, station, numbers, |length, g, d| {
+        g == 0 || excess(length, g, d, twice_factor(d, -g)) >= 0
+    })
+}
+
+fn station_first(profile: &[i64], station: u64, numbers: &mut [i64]) -> Answer {
+    height_refused_otherwise(profile, station, numbers, |refusal, profile| {
+        let stations = profile.start as u64..=*STATIONS.end() as u64;
+        let outside = !stations.contains(&station);
+        (refusal.number == 23 && outside).then_some(refuse(17, 0))
+    })
+}
+
+fn without_end_of_profile(profile: &[i64], station: u64, numbers: &mut [i64]) -> Answer {
+    let end = *STATIONS.end() as u64;
+    Reference.height(profile, station.min(end), numbers)
+}
+
+fn room_before_station(profile: &[i64], station: u64, numbers: &mut [i64]) -> Answer {
+    let room = numbers.len();
+    height_refused_otherwise(profile, station, numbers, |refusal, _| {
+        (refusal.number == 17 && room == 0).then_some(refuse(16, 0))
     })
 }

@@ -4,8 +4,8 @@ use crate::compare::Comparison;
 use crate::input::{Call, Input};
 use reference::line::MOST_CURVES;
 
-/// Accepted, and the refusals 1 to 20.
-const OUTCOMES: usize = 21;
+/// Accepted, and the refusals 1 to 23.
+const OUTCOMES: usize = 24;
 
 /// The last refusal that a text tells.
 const MOST_TOLD: usize = 15;
@@ -78,7 +78,7 @@ impl Tally {
         let sums = columns.map(|counts| counts.iter().sum::<u64>());
         table.push(row("all", sums));
         let full = self.full.iter().zip(Call::ALL);
-        let full = full.map(|(count, call)| column(call != Call::Elements, *count));
+        let full = full.map(|(count, call)| column(has_curves(call), *count));
         table.push(row("accepted, 64 curves", full));
         table
     }
@@ -101,6 +101,11 @@ fn can_give(call: Call, outcome: usize) -> bool {
             .refusals()
             .into_iter()
             .any(|number| usize::from(number) == outcome)
+}
+
+/// Whether the call takes a line, as a sheet, in numbers or by points.
+fn has_curves(call: Call) -> bool {
+    !matches!(call, Call::Elements | Call::Height)
 }
 
 /// A count, or a dash where there is none and can be none.
@@ -180,19 +185,23 @@ mod tests {
         let points = Request::FromPoints(staircase(64));
         add(&mut tally, points.clone(), Ok(325), None);
         add(&mut tally, points, refuse(19, 64), None);
+        let height = Request::Height(vec![70, 0, 0, 0], 0);
+        add(&mut tally, height.clone(), Ok(1), None);
+        add(&mut tally, height, refuse(23, 2), None);
         for (name, expected) in [
-            ("accepted ", "1 0 0 0 2 0 1 1 1 1"),
-            ("accepted, 64", "1 0 0 - 1 0 1 1 1"),
-            ("refused 8", "0 0 0 - - 0 1 0 0 1"),
-            ("refused 7", "0 0 0 - - 0 - 0 - 0"),
-            ("refused 16", "1 - 0 0 0 0 0 0 0 -"),
-            ("refused 17", "- - - - - - - 1 - -"),
-            ("refused 19", "- - - - - - - - 1 -"),
-            ("all", "2 0 0 0 2 0 2 2 2 2"),
+            ("accepted ", "1 0 0 0 2 0 1 1 1 1 1"),
+            ("accepted, 64", "1 0 0 - 1 0 1 1 1 -"),
+            ("refused 8", "0 0 0 - - 0 1 0 0 - 1"),
+            ("refused 7", "0 0 0 - - 0 - 0 - - 0"),
+            ("refused 16", "1 - 0 0 0 0 0 0 0 0 -"),
+            ("refused 17", "- - - - - - - 1 - 0 -"),
+            ("refused 19", "- - - - - - - - 1 - -"),
+            ("refused 23", "- - - - - - - - - 1 -"),
+            ("all", "2 0 0 0 2 0 2 2 2 2 2"),
         ] {
             assert_eq!(columns(&tally, name).join(" "), expected);
         }
-        assert_eq!(tally.total(), 10);
+        assert_eq!(tally.total(), 12);
     }
 
     #[test]
@@ -211,6 +220,8 @@ mod tests {
         tally.answered[Call::Peg as usize][17] = 0;
         tally.answered[Call::FromPoints as usize][9] = 0;
         tally.answered[Call::FromPoints as usize][20] = 0;
+        tally.answered[Call::Height as usize][5] = 0;
+        tally.answered[Call::Height as usize][21] = 0;
         tally.told[3] = 0;
         tally.told[16] = 0;
         tally.told[17] = 0;
@@ -222,6 +233,7 @@ mod tests {
                 "write refused 3",
                 "peg refused 17",
                 "points refused 20",
+                "height refused 21",
                 "text telling refused 3"
             ]
         );

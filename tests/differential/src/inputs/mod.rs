@@ -9,6 +9,7 @@ mod named;
 pub mod near_limits;
 mod pegs;
 mod points;
+mod profiles;
 mod sheets;
 
 use crate::input::{Input, Request, Room};
@@ -17,9 +18,12 @@ use lines::any_line;
 use named::{named_requests, NamedRequest};
 use pegs::any_peg;
 use points::any_survey;
+use profiles::any_height;
 use reference::line::{Line, MOST_CURVES};
+use reference::profile::MOST_VERTICES;
 use reference::samples::dice::Dice;
 use reference::samples::point_edges::{case_1, staircase};
+use reference::samples::profile_edges::{crest, waves};
 use reference::samples::roads::road;
 use reference::samples::sheet_fields::sheet_of;
 use sheets::any_sheet;
@@ -89,7 +93,7 @@ impl Inputs {
 }
 
 /// Case 1 and a road of 64 curves with the calls that take a sheet or a line, case
-/// 1's curve, and one and 64 curves by points.
+/// 1's curve, one and 64 curves by points, and profiles of one and 32 vertices.
 fn sized_requests(seed: u64) -> Vec<Request> {
     let lines = [Line::case_1(), road(&mut Dice::new(seed), MOST_CURVES)];
     let mut requests = vec![Request::Elements(Line::case_1().curve(1))];
@@ -99,6 +103,10 @@ fn sized_requests(seed: u64) -> Vec<Request> {
         requests.push(Request::Write(line.numbers()));
     }
     requests.extend([case_1(), staircase(MOST_CURVES)].map(Request::FromPoints));
+    for profile in [crest(), waves(MOST_VERTICES)] {
+        let station = profile.vertices[0].station as u64;
+        requests.push(Request::Height(profile.numbers(), station));
+    }
     requests
 }
 
@@ -121,7 +129,7 @@ fn any_request_and_room(dice: &mut Dice) -> (Request, Room) {
 }
 
 fn any_request(dice: &mut Dice) -> Request {
-    match dice.between(0, 41) {
+    match dice.between(0, 46) {
         0..=6 => Request::Stations(any_sheet(dice)),
         7..=8 => Request::Check(any_sheet(dice)),
         9..=12 => Request::Rewrite(any_sheet(dice)),
@@ -130,7 +138,8 @@ fn any_request(dice: &mut Dice) -> Request {
         20..=23 => Request::Read(any_sheet(dice)),
         24..=29 => Request::Write(any_line(dice)),
         30..=35 => any_peg(dice),
-        _ => Request::FromPoints(any_survey(dice)),
+        36..=41 => Request::FromPoints(any_survey(dice)),
+        _ => any_height(dice),
     }
 }
 

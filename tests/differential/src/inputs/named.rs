@@ -12,6 +12,7 @@ use reference::samples::line_edges;
 use reference::samples::named::{named, Claim, Named};
 use reference::samples::peg_edges;
 use reference::samples::point_edges;
+use reference::samples::profile_edges;
 use reference::samples::roads::road;
 use reference::samples::sheet_edges;
 use reference::samples::sheet_fields::{sheet_of, sheet_of_any};
@@ -37,6 +38,7 @@ pub fn named_requests() -> Vec<NamedRequest> {
         odd_lines(&mut dice),
         pegs(&mut dice),
         points(),
+        heights(&mut dice),
     ]
     .concat();
     let without_room = without_room(&requests);
@@ -44,7 +46,8 @@ pub fn named_requests() -> Vec<NamedRequest> {
 }
 
 /// Those that claim a refusal before 16 again, without any room: 16 comes last.
-/// The station of a peg then also lies beyond every line: 17 comes before it.
+/// The station of a peg or a height then also lies beyond every line and profile: 17
+/// comes before it.
 fn without_room(requests: &[NamedRequest]) -> Vec<NamedRequest> {
     let refused_before_16 = |named: &&NamedRequest| {
         let refusals = named.sample.0.call().refusals();
@@ -67,6 +70,10 @@ fn without_room(requests: &[NamedRequest]) -> Vec<NamedRequest> {
             Request::Peg(sheet, _) if claim != Claim::of(17, 0) => {
                 let name = format!("{name}, station {}", u64::MAX);
                 (name, Request::Peg(sheet, u64::MAX))
+            }
+            Request::Height(profile, _) if claim != Claim::of(17, 0) => {
+                let name = format!("{name}, station {}", u64::MAX);
+                (name, Request::Height(profile, u64::MAX))
             }
             request => (name, request),
         };
@@ -163,6 +170,17 @@ fn points() -> Vec<NamedRequest> {
     let requests = edges.map(|edge| {
         request_of(edge, |call| {
             (Request::FromPoints(call.survey), Room::Entries(call.room))
+        })
+    });
+    requests.collect()
+}
+
+fn heights(dice: &mut Dice) -> Vec<NamedRequest> {
+    let edges = profile_edges::edges(dice).into_iter();
+    let requests = edges.map(|edge| {
+        request_of(edge, |call| {
+            let request = Request::Height(call.profile, call.station);
+            (request, Room::Entries(call.room))
         })
     });
     requests.collect()
@@ -320,6 +338,7 @@ mod tests {
             odd_lines(&mut dice).len(),
             pegs(&mut dice).len(),
             points().len(),
+            heights(&mut dice).len(),
         ];
         // Of the calculator's 345 lines no sheet can hold 26; 7 rooms are too
         // small.
@@ -336,9 +355,10 @@ mod tests {
                 93,
                 1_650 + 6 + 16 + 8,
                 1_050,
+                1_970,
             ]
         );
-        let without_room = 3_103;
+        let without_room = 3_967;
         let all = counts.iter().sum::<usize>() + without_room;
         assert_eq!(named_requests().len(), all);
     }
@@ -366,14 +386,15 @@ mod tests {
     }
 
     /// Every refusal of every call is claimed; too small rooms only of the calls
-    /// of a line, of pegs and of points, the other calls have every size elsewhere.
+    /// of a line, of pegs, of points and of heights, the other calls have every size
+    /// elsewhere.
     #[test]
     fn every_refusal_is_claimed() {
         for call in Call::ALL {
             let mut expected: BTreeSet<u8> = call.refusals().into_iter().collect();
             if !matches!(
                 call,
-                Call::Stations | Call::Write | Call::Peg | Call::FromPoints
+                Call::Stations | Call::Write | Call::Peg | Call::FromPoints | Call::Height
             ) {
                 expected.remove(&16);
             }
