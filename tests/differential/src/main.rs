@@ -13,6 +13,7 @@ mod laws;
 mod memory;
 mod progress;
 mod published;
+mod published_heights;
 mod published_lines;
 mod run;
 mod side;
@@ -51,9 +52,12 @@ fn main() -> ExitCode {
     }
 }
 
-/// The published elements and the published lines.
+/// The published elements, lines and heights.
 fn published() -> Result<String, String> {
-    Ok(published::check(&Library)? + &published_lines::check(&Library)?)
+    let elements = published::check(&Library)?;
+    let lines = published_lines::check(&Library)?;
+    let heights = published_heights::check(&Library)?;
+    Ok(elements + &lines + &heights)
 }
 
 fn run(seed: u64, count: u64) -> ExitCode {
