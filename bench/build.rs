@@ -14,7 +14,12 @@ const BEFORE: [[&str; 2]; 5] = [
     ["pokyandi_elements", "before_elements"],
 ];
 
-const SOURCES: [&str; 3] = ["c/baseline.c", "c/from_points.c", "c/rewrite.c"];
+const SOURCES: [&str; 4] = [
+    "c/baseline.c",
+    "c/from_points.c",
+    "c/height.c",
+    "c/rewrite.c",
+];
 
 fn main() {
     let folder = env::var("OUT_DIR").expect("cargo names OUT_DIR");

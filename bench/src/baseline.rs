@@ -1,9 +1,9 @@
 //! Plain C: the elements of one curve in f64 without checks (`c/baseline.c`), and
-//! with every check a line from points (`c/from_points.c`) and a sheet read and
-//! written again (`c/rewrite.c`).
+//! with every check a line from points (`c/from_points.c`), a sheet read and written
+//! again (`c/rewrite.c`) and the height of a profile (`c/height.c`).
 
 use crate::side::{Answer, Refused};
-use pokyandi::{LINE_NUMBERS, SHEET_BYTES};
+use pokyandi::{HEIGHT_NUMBERS, LINE_NUMBERS, SHEET_BYTES};
 use reference::curve::Curve;
 use reference::samples::surveys::Survey;
 
@@ -28,6 +28,14 @@ extern "C" {
         bytes: *mut u8,
         bytes_room: usize,
     ) -> u64;
+
+    fn baseline_height(
+        profile: *const i64,
+        profile_numbers: usize,
+        station: u64,
+        height: *mut i64,
+        height_numbers: usize,
+    ) -> u64;
 }
 
 /// It keeps the buffers that its calls fill, as a [`crate::side::Side`] does.
@@ -35,6 +43,7 @@ pub struct Baseline {
     elements: [f64; 6],
     line: [u32; LINE_NUMBERS],
     bytes: [u8; SHEET_BYTES],
+    height: [i64; HEIGHT_NUMBERS],
 }
 
 impl Baseline {
@@ -43,6 +52,7 @@ impl Baseline {
             elements: [0.0; 6],
             line: [0; LINE_NUMBERS],
             bytes: [0; SHEET_BYTES],
+            height: [0; HEIGHT_NUMBERS],
         }
     }
 
@@ -63,6 +73,12 @@ impl Baseline {
     pub fn rewrite(&mut self, sheet: &[u8]) -> Answer<&[u8]> {
         let count = rewrite(sheet, &mut self.bytes)?;
         Ok(&self.bytes[..count])
+    }
+
+    /// The height of a profile, mm, at a station.
+    pub fn height(&mut self, profile: &[i64], station: u64) -> Answer<&[i64]> {
+        let count = height(profile, station, &mut self.height)?;
+        Ok(&self.height[..count])
     }
 }
 
@@ -96,6 +112,20 @@ fn rewrite(sheet: &[u8], bytes: &mut [u8]) -> Answer<usize> {
     answered(answer)
 }
 
+fn height(profile: &[i64], station: u64, height: &mut [i64]) -> Answer<usize> {
+    // SAFETY: pointers and lengths are those of slices; the height is borrowed alone.
+    let answer = unsafe {
+        baseline_height(
+            profile.as_ptr(),
+            profile.len(),
+            station,
+            height.as_mut_ptr(),
+            height.len(),
+        )
+    };
+    answered(answer)
+}
+
 /// What an answer in C says: its upper 32 bits are 0 and the lower ones a count,
 /// or they are a refusal's number and its place.
 fn answered(answer: u64) -> Answer<usize> {
@@ -112,8 +142,11 @@ fn answered(answer: u64) -> Answer<usize> {
 mod tests {
     use super::*;
     use reference::points;
+    use reference::profile;
     use reference::samples::dice::Dice;
     use reference::samples::point_edges::{edges, SurveyCall};
+    use reference::samples::profile_edges::{self, ProfileCall};
+    use reference::samples::profiles::random_profile;
     use reference::samples::roads::road;
     use reference::samples::sheet_edges;
     use reference::samples::sheet_fields::{flip, sheet_of};
@@ -136,6 +169,49 @@ mod tests {
             let expected = points::from_points(heading, &points, &curves, &mut lines[1]);
             assert_eq!(answer, expected.map_err(Refused::from), "{}", edge.name);
             assert_eq!(lines[0], lines[1], "{}", edge.name);
+        }
+    }
+
+    fn check_height(name: &str, numbers: &[i64], station: u64, room: usize) {
+        let mut heights = [vec![7; room], vec![7; room]];
+        let answer = height(numbers, station, &mut heights[0]);
+        let expected = profile::height(numbers, station, &mut heights[1]);
+        assert_eq!(answer, expected.map_err(Refused::from), "{name}");
+        assert_eq!(heights[0], heights[1], "{name}");
+    }
+
+    #[test]
+    fn edges_of_profiles() {
+        for edge in profile_edges::edges(&mut Dice::new(1)) {
+            let ProfileCall {
+                profile,
+                station,
+                room,
+            } = edge.sample;
+            check_height(&edge.name, &profile, station, room);
+        }
+    }
+
+    /// Profiles of every count with stations all over them, and with a number less,
+    /// more or far away.
+    #[test]
+    fn random_profiles() {
+        let mut dice = Dice::new(1);
+        for n in (0..=32).cycle().take(33 * 30) {
+            let profile = random_profile(&mut dice, n);
+            let mut numbers = profile.numbers();
+            let end = profile
+                .vertices
+                .last()
+                .map_or(200_000_000, |last| last.end());
+            for _ in 0..8 {
+                let station = dice.long(profile.start as u64, end as u64);
+                check_height("random", &numbers, station, 1);
+            }
+            let place = dice.index(0, numbers.len() - 1);
+            let any = dice.long(0, u64::MAX) as i64;
+            numbers[place] += dice.one_of(&[-2, -1, 1, 2, any >> 32]);
+            check_height("damaged", &numbers, profile.start as u64, 1);
         }
     }
 

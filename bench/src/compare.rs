@@ -6,6 +6,7 @@ use crate::before::Before;
 use crate::inputs::{Inputs, Road};
 use crate::job::{Job, Task};
 use crate::library::Library;
+use crate::profiles::Height;
 use crate::reference_side::Reference;
 use crate::side::Side;
 use reference::curve::Curve;
@@ -24,6 +25,7 @@ pub fn compare(job: Job, inputs: &Inputs) -> Result<(), String> {
     for i in 0..job.input_count(inputs) {
         let same = match job.task {
             Task::Points => compare_survey(&job.surveys(inputs)[i], &mut library, &mut reference),
+            Task::Height => compare_height(&job.heights(inputs)[i], &mut library, &mut reference),
             Task::Elements => compare_curve(inputs.curves[i], &mut library, &mut reference),
             task => compare_road(task, &job.roads(inputs)[i], &mut library, &mut reference),
         };
@@ -50,7 +52,9 @@ fn compare_road(
         Task::Peg => same(library.peg(sheet, *station), reference.peg(sheet, *station)),
         Task::Check => same(library.check(sheet), reference.check(sheet)),
         Task::Text => same(library.text(sheet), reference.text(sheet)),
-        Task::Points | Task::Elements => unreachable!("they have inputs of their own"),
+        Task::Points | Task::Height | Task::Elements => {
+            unreachable!("they have inputs of their own")
+        }
     }
 }
 
@@ -90,6 +94,17 @@ fn compare_survey(
         answer,
         Baseline::new().line_from_points(survey),
     )
+}
+
+fn compare_height(
+    Height { profile, station }: &Height,
+    library: &mut Library,
+    reference: &mut Reference,
+) -> Result<(), String> {
+    let answer = library.height(profile, *station);
+    same(answer, reference.height(profile, *station))?;
+    let mut baseline = Baseline::new();
+    same_as("the C baseline", answer, baseline.height(profile, *station))
 }
 
 fn compare_curve(

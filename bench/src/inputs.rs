@@ -1,6 +1,7 @@
-//! The sheets, stations, curves and points that the jobs go through, the same in
-//! every run. All are accepted.
+//! The sheets, stations, curves, points and profiles that the jobs go through, the
+//! same in every run. All are accepted.
 
+use crate::profiles::Profiles;
 use crate::surveys::Surveys;
 use reference::curve::Curve;
 use reference::line::{Line, MOST_CURVES};
@@ -33,6 +34,7 @@ pub struct Inputs {
     /// Lines by their points. The reference's table of sines, with which they are
     /// made, takes long: only jobs that use them wait for it.
     pub surveys: LazyCell<Surveys>,
+    pub profiles: Profiles,
 }
 
 /// A sheet, its line in numbers, and the station of its peg.
@@ -59,6 +61,7 @@ impl Inputs {
             single,
             straight,
             surveys: LazyCell::new(Surveys::make),
+            profiles: Profiles::make(),
         }
     }
 
@@ -67,7 +70,8 @@ impl Inputs {
         let simple = self.curves.iter().filter(|curve| curve.l == 0).count();
         format!(
             "sheets, {} of 64 curves, {} of 8, {} of 1 and {} of none; \
-             {} curves ({simple} without spirals); lines, {} of 66 points and {} of 3",
+             {} curves ({simple} without spirals); lines, {} of 66 points and {} of 3; \
+             profiles, {} of 32 vertices, {} of 4 and {} of none",
             self.full.len(),
             self.eight.len(),
             self.single.len(),
@@ -75,6 +79,9 @@ impl Inputs {
             self.curves.len(),
             self.surveys.full.len(),
             self.surveys.single.len(),
+            self.profiles.full.len(),
+            self.profiles.four.len(),
+            self.profiles.straight.len(),
         )
     }
 }

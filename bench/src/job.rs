@@ -2,6 +2,7 @@
 
 use crate::baseline::Baseline;
 use crate::inputs::{Inputs, Road};
+use crate::profiles::Height;
 use crate::side::Side;
 use reference::samples::surveys::Survey;
 use std::hint::black_box;
@@ -17,21 +18,27 @@ pub enum Task {
     Check,
     Text,
     Points,
+    Height,
     Elements,
 }
 
 impl Task {
     /// Whether it is timed in plain C too.
     pub fn in_c(self) -> bool {
-        matches!(self, Task::Rewrite | Task::Points | Task::Elements)
+        matches!(
+            self,
+            Task::Rewrite | Task::Points | Task::Height | Task::Elements
+        )
     }
 }
 
-/// How many curves the sheets or lines of a job have: 64, 8, one or none.
+/// How many curves the sheets or lines of a job have: 64, 8, one or none; how many
+/// vertices its profiles: 32, 4 or none.
 #[derive(Clone, Copy, PartialEq, Eq)]
 pub enum Size {
     Full,
     Eight,
+    Four,
     Single,
     Straight,
 }
@@ -46,7 +53,7 @@ pub struct Job {
     size: Size,
 }
 
-pub const JOBS: [Job; 23] = [
+pub const JOBS: [Job; 26] = [
     full("read-64", "read, 64 curves", Task::Read),
     full("write-64", "written, 64 curves", Task::Write),
     full("rewrite-64", "read and written, 64 curves", Task::Rewrite),
@@ -73,6 +80,9 @@ pub const JOBS: [Job; 23] = [
     straight("rewrite-0", "read and written, no curve", Task::Rewrite),
     full("points-64", "line from 66 points", Task::Points),
     single("points-1", "line from 3 points", Task::Points),
+    full("height-32", "height, 32 vertices", Task::Height),
+    job("height-4", "height, 4 vertices", Task::Height, Size::Four),
+    straight("height-0", "height, no vertex", Task::Height),
     full("elements", "elements of one curve", Task::Elements),
 ];
 
@@ -118,6 +128,7 @@ impl Job {
             Size::Eight => &inputs.eight,
             Size::Single => &inputs.single,
             Size::Straight => &inputs.straight,
+            Size::Four => unreachable!("no sheets have this size"),
         }
     }
 
@@ -126,7 +137,19 @@ impl Job {
         match self.size {
             Size::Full => &inputs.surveys.full,
             Size::Single => &inputs.surveys.single,
-            Size::Eight | Size::Straight => unreachable!("no lines by points have this size"),
+            Size::Eight | Size::Four | Size::Straight => {
+                unreachable!("no lines by points have this size")
+            }
+        }
+    }
+
+    /// The profiles of the job, with their stations.
+    pub fn heights(self, inputs: &Inputs) -> &[Height] {
+        match self.size {
+            Size::Full => &inputs.profiles.full,
+            Size::Four => &inputs.profiles.four,
+            Size::Straight => &inputs.profiles.straight,
+            Size::Eight | Size::Single => unreachable!("no profiles have this size"),
         }
     }
 
@@ -134,6 +157,7 @@ impl Job {
     pub fn input_count(self, inputs: &Inputs) -> usize {
         match self.task {
             Task::Points => self.surveys(inputs).len(),
+            Task::Height => self.heights(inputs).len(),
             Task::Elements => inputs.curves.len(),
             _ => self.roads(inputs).len(),
         }
@@ -146,6 +170,7 @@ pub fn work<S: Side>(job: Job, side: &mut S, inputs: &Inputs, times: usize) {
     for _ in 0..times {
         match job.task {
             Task::Points => each_survey(side, job.surveys(inputs)),
+            Task::Height => each_height(side, job.heights(inputs)),
             Task::Elements => each_curve(side, inputs),
             task => each_road(task, side, job.roads(inputs)),
         }
@@ -155,6 +180,12 @@ pub fn work<S: Side>(job: Job, side: &mut S, inputs: &Inputs, times: usize) {
 fn each_survey<S: Side>(side: &mut S, surveys: &[Survey]) {
     for survey in surveys {
         keep(side.line_from_points(black_box(survey)));
+    }
+}
+
+fn each_height<S: Side>(side: &mut S, heights: &[Height]) {
+    for Height { profile, station } in heights {
+        keep(side.height(black_box(profile), black_box(*station)));
     }
 }
 
@@ -180,7 +211,9 @@ fn each_road<S: Side>(task: Task, side: &mut S, roads: &[Road]) {
             Task::Peg => keep(side.peg(sheet, black_box(*station))),
             Task::Check => keep(side.check(sheet)),
             Task::Text => keep(side.text(sheet)),
-            Task::Points | Task::Elements => unreachable!("they have inputs of their own"),
+            Task::Points | Task::Height | Task::Elements => {
+                unreachable!("they have inputs of their own")
+            }
         }
     }
 }
@@ -198,6 +231,11 @@ pub fn work_baseline(job: Job, baseline: &mut Baseline, inputs: &Inputs, times: 
             Task::Points => {
                 for survey in job.surveys(inputs) {
                     keep(baseline.line_from_points(black_box(survey)));
+                }
+            }
+            Task::Height => {
+                for Height { profile, station } in job.heights(inputs) {
+                    keep(baseline.height(black_box(profile), black_box(*station)));
                 }
             }
             Task::Elements => {

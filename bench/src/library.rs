@@ -1,7 +1,7 @@
 //! The proved library.
 
 use crate::side::{Answer, Refused, Side};
-use pokyandi::{Refusal, ELEMENT_NUMBERS, LINE_NUMBERS, PEG_NUMBERS};
+use pokyandi::{Refusal, ELEMENT_NUMBERS, HEIGHT_NUMBERS, LINE_NUMBERS, PEG_NUMBERS};
 use pokyandi::{ROW_NUMBERS, SHEET_BYTES, TEXT_BYTES};
 use reference::curve::Curve;
 use reference::points::Heading;
@@ -12,6 +12,7 @@ pub struct Library {
     bytes: [u8; SHEET_BYTES],
     row: [u64; ROW_NUMBERS],
     peg: [i64; PEG_NUMBERS],
+    height: [i64; HEIGHT_NUMBERS],
     text: [u8; TEXT_BYTES],
     elements: [u64; ELEMENT_NUMBERS],
 }
@@ -23,6 +24,7 @@ impl Library {
             bytes: [0; SHEET_BYTES],
             row: [0; ROW_NUMBERS],
             peg: [0; PEG_NUMBERS],
+            height: [0; HEIGHT_NUMBERS],
             text: [0; TEXT_BYTES],
             elements: [0; ELEMENT_NUMBERS],
         }
@@ -78,6 +80,11 @@ impl Side for Library {
         let (points, curves) = (&survey.points, &survey.curves);
         let count = pokyandi::from_points(v, e, start, points, curves, &mut self.line)?;
         Ok(&self.line[..count])
+    }
+
+    fn height(&mut self, profile: &[i64], station: u64) -> Answer<&[i64]> {
+        let count = pokyandi::height(profile, station, &mut self.height)?;
+        Ok(&self.height[..count])
     }
 
     fn elements(&mut self, Curve { a, r, l }: Curve) -> Answer<()> {

@@ -1,5 +1,5 @@
 //! Times the proved library against the reference, and against plain C for a sheet
-//! rewritten, a line from points and the elements of one curve.
+//! rewritten, a line from points, a height and the elements of one curve.
 
 mod archive;
 mod arguments;
@@ -12,6 +12,7 @@ mod inputs;
 mod job;
 mod library;
 mod measure;
+mod profiles;
 mod programs;
 mod reference_side;
 mod side;
@@ -124,8 +125,10 @@ fn print_notes(inputs: &Inputs, process: Option<f64>, rates: Option<String>) {
         println!("(***) Times of one sheet, read from its file, in metres. {rates}");
     }
     let difference = largest_baseline_difference(inputs);
-    println!("C: plain C. Sheets and lines from points with every check, and the same answers;");
-    println!("elements in f64 without checks, at most {difference:.1} µm from the library.");
+    println!("C: plain C. Sheets, lines from points and heights with every check, and the same");
+    println!(
+        "answers; elements in f64 without checks, at most {difference:.1} µm from the library."
+    );
     if cfg!(before) {
         println!("Before: the library that POKYANDI_BEFORE named when the bench was built.");
     }

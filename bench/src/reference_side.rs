@@ -1,14 +1,15 @@
 //! The reference. It has no call of its own for a check, which is reading and
-//! calculating there; the numbers of a line and its text it allocates for each
-//! call.
+//! calculating there; the numbers of a line, its text and a profile it allocates for
+//! each call.
 
 use crate::side::{Answer, Refused, Side};
-use pokyandi::{LINE_NUMBERS, ROW_NUMBERS, SHEET_BYTES};
+use pokyandi::{HEIGHT_NUMBERS, LINE_NUMBERS, ROW_NUMBERS, SHEET_BYTES};
 use reference::curve::Curve;
 use reference::elements::{elements, Elements};
 use reference::line_numbers;
 use reference::pegs::{peg, PEG_NUMBERS};
 use reference::points::from_points;
+use reference::profile::height;
 use reference::refusal::Refusal;
 use reference::report::report;
 use reference::samples::surveys::Survey;
@@ -20,6 +21,7 @@ pub struct Reference {
     bytes: [u8; SHEET_BYTES],
     row: [u64; ROW_NUMBERS],
     peg: [i64; PEG_NUMBERS],
+    height: [i64; HEIGHT_NUMBERS],
     text: String,
     elements: Elements,
 }
@@ -31,6 +33,7 @@ impl Reference {
             bytes: [0; SHEET_BYTES],
             row: [0; ROW_NUMBERS],
             peg: [0; PEG_NUMBERS],
+            height: [0; HEIGHT_NUMBERS],
             text: String::new(),
             elements: Elements {
                 x: 0,
@@ -95,6 +98,11 @@ impl Side for Reference {
         let (points, curves) = (&survey.points, &survey.curves);
         let count = from_points(survey.heading, points, curves, &mut self.line)?;
         Ok(&self.line[..count])
+    }
+
+    fn height(&mut self, profile: &[i64], station: u64) -> Answer<&[i64]> {
+        let count = height(profile, station, &mut self.height)?;
+        Ok(&self.height[..count])
     }
 
     fn elements(&mut self, Curve { a, r, l }: Curve) -> Answer<()> {

@@ -39,6 +39,9 @@ pub trait Side {
     /// The line through points in numbers.
     fn line_from_points(&mut self, survey: &Survey) -> Answer<&[u32]>;
 
+    /// The height of a profile, mm, at a station.
+    fn height(&mut self, profile: &[i64], station: u64) -> Answer<&[i64]>;
+
     /// Works out the elements of a curve and keeps them.
     fn elements(&mut self, curve: Curve) -> Answer<()>;
 

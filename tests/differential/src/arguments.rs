@@ -10,8 +10,9 @@ usage: differential run [--seed S] [--count N]
 run       calls the static library and the reference with the same N inputs
           and compares the answers and every byte or number of the memory,
           lent or not. An input is one of the calls stations, check, rewrite,
-          elements, text, read, write and peg with one sheet, curve or line and
-          one lent buffer. The first inputs have a name. Prints how often each
+          elements, text, read, write, peg, points and height with one sheet,
+          curve, line, list of points or profile and one lent buffer. The first
+          inputs have a name. Prints how often each
           call gave each answer. With 20000 inputs or more, every refusal that a
           call can give must occur.
           Without options: seed 1, 40000 inputs.
@@ -22,8 +23,9 @@ accuracy  holds the library's stations, elements and offsets on spirals of N
           longest that are refused.
           Without options: seed 1, 3000 lines.
 published holds the library's elements against source document 002's worked
-          example, and those of curves without spiral against document 01's
-          case 11.
+          example, those of curves without spiral against document 01's case
+          11, its lines from coordinates against source document 000's, and its
+          heights against those of source documents 000 and 003.
 
 The same seed gives the same inputs. Exit status: 0 where all agree and every
 bound holds, 1 where not, 2 for arguments that are not understood.
