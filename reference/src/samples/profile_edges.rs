@@ -38,6 +38,7 @@ pub fn edges(dice: &mut Dice) -> Vec<Named<ProfileCall>> {
         room_edges(),
         faults_at_every_place(),
         several_faults(),
+        faults_of_33(),
     ]
     .concat()
 }
@@ -668,6 +669,20 @@ fn several_faults() -> Vec<Named<ProfileCall>> {
     let mut seen = BTreeSet::new();
     pairs.retain(|pair| pair.len() > 1 && seen.insert(pair.clone()));
     pairs.iter().map(|faults| faulty_call(5, faults)).collect()
+}
+
+/// One vertex more than there may be, beside every other fault.
+fn faults_of_33() -> Vec<Named<ProfileCall>> {
+    let n = MOST_VERTICES + 1;
+    let others = ORDER.into_iter().skip(1);
+    let edges = others.map(|number| {
+        let place = if has_place(number) { 1 } else { 0 };
+        Named {
+            claim: Claim::of(3, 0),
+            ..faulty_call(n, &[(number, place)])
+        }
+    });
+    edges.collect()
 }
 
 #[cfg(test)]

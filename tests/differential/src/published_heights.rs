@@ -30,8 +30,8 @@ const STAKE: u64 = 20_000;
 /// unsymmetrical: two curves that touch below the PIV, the grade between them rounded
 /// to a millionth. Exercise 19's ordinate of 0.924 m lies below the PIV, here at 0.
 /// Source document 003, table 8: grades follow from the printed PIVs, rounded to a
-/// millionth; lengths are odd in mm and taken 1 mm shorter; the ends of the circular
-/// curves lie on the straight grades.
+/// millionth; odd lengths are taken 1 mm shorter; the ends of the circular curves lie
+/// on the straight grades.
 const PROFILES: [PublishedProfile; 17] = [
     PublishedProfile {
         name: "000, 8, example 1",

@@ -355,10 +355,10 @@ mod tests {
                 93,
                 1_650 + 6 + 16 + 8,
                 1_050,
-                1_970,
+                1_977,
             ]
         );
-        let without_room = 3_967;
+        let without_room = 3_974;
         let all = counts.iter().sum::<usize>() + without_room;
         assert_eq!(named_requests().len(), all);
     }
