@@ -1,1 +1,3 @@
 -- Laws of profiles as numbers.
+pub mod Sizes
+pub mod Filling

@@ -1,9 +1,10 @@
 // The profile of numbers.
 ghost use mathlib.Core.Path.{_≡_};
-ghost use Prim.Native.Nat.{_≤_};
-ghost use Rattle.refusals.specs.Outcomes.{outcomeOf, passed};
+ghost use Prim.Native.Nat.{_+_, _*_, _≤_};
+ghost use lib.ListN.{length};
+ghost use Rattle.refusals.specs.Outcomes.{outcomeOf};
 ghost use Rattle.refusals.specs.Order.{outcome};
-ghost use Rattle.profile_numbers.specs.Numbers.{unsigned, profileOf, sizeChecks};
+ghost use Rattle.profile_numbers.specs.Numbers.{vertexCount, unsigned, profileOf, sizeChecks};
 use profile::Profile;
 use refusals::Refusal;
 use refusals::Verdict;
@@ -37,7 +38,7 @@ fn field_of(number: i64) -> u64
 
 // The profile of numbers, its unused entries zero.
 pub(crate) fn read(numbers: &[i64]) -> Profile
-    requires { ⌜ outcome (sizeChecks (now numbers)) ≡ passed ⌝ }
+    requires { ⌜ (length (now numbers) ≡ 4 + 3 * vertexCount (now numbers)) × (vertexCount (now numbers) ≤ 32) ⌝ }
     ensures { λ r. ⌜ r ≡ profileOf (now (numbers .entry)) ⌝ }
 {
     let n = (numbers.len() - 4) / 3;
