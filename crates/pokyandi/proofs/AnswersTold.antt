@@ -1,4 +1,4 @@
--- What a caller in C or Rust reads off an answer: the upper 32 bits are 0 after a count and else the refusal's number, 1 to 20; the lower
+-- What a caller in C or Rust reads off an answer: the upper 32 bits are 0 after a count and else the refusal's number, 1 to 23; the lower
 -- ones are the count or the place. Assumes nothing.
 use mathlib.Core.Path.{_≡_, refl}
 use mathlib.Core.List.{List}
@@ -32,6 +32,9 @@ use Rattle.coordinates.proofs.Accepted.{line-accepted}
 use Rattle.coordinates.proofs.Numbers.{from-points-numbers}
 use Rattle.pegs.specs.Pegs.{stationCheck, pegChecks}
 use Rattle.pegs.specs.Numbers.{stationNumbers}
+use Rattle.profile.specs.Checks.{heightChecks}
+use Rattle.profile.proofs.Numbers.{height-numbers}
+use Rattle.profile_numbers.specs.Numbers.{profileOf, heightNumbers, countCheck as profileCountCheck, numbersChecks as profileNumbersChecks}
 use Rattle.station_report.specs.Report.{sheetChecks, sheetText}
 use Rattle.station_report.proofs.Fits.{sheet-numbers, fits}
 use Rattle.pokyandi.specs.Answers.{answerNumber}
@@ -117,6 +120,13 @@ from-points-told v e start points curves lent =
     reply-told 20 (omega arith) checks (pointNumbers v e start points curves) lent
     (wider checks (from-points-numbers v e start points curves) (omega arith) (omega arith) (omega arith))
     (λ accepted. omega (arith, line-length whole, few whole (line-accepted v e start points curves accepted)))
+
+pub height-told : (profile lent : List ℤ) (station : ℕ) → Told 23 (fill (profileNumbersChecks profile station) (heightNumbers profile station) lent .reply)
+unfolding profileNumbersChecks profileCountCheck heightNumbers
+height-told profile lent station =
+    reply-told 23 (omega arith) (profileNumbersChecks profile station) (heightNumbers profile station) lent
+    ((omega arith, omega arith, omega arith), λ _. wider (heightChecks (profileOf profile) station) (height-numbers (profileOf profile) station) (omega arith) (omega arith) (omega arith))
+    (λ e. omega arith)
 
 pub write-told : (numbers lent : List ℕ) → Told 16 (fill (numbersChecks numbers) (numbersSheet numbers) lent .reply)
 unfolding numbersChecks numbersSheet countCheck lineOf

@@ -15,6 +15,7 @@ ghost use Rattle.packed_sheet.specs.Layout.{firstEdition};
 ghost use Rattle.packed_sheet.specs.Reading.{readChecks};
 ghost use Rattle.elements.specs.Answer.{elementChecks};
 ghost use Rattle.coordinates.specs.FromPoints.{fromPointsChecks};
+ghost use Rattle.profile_numbers.specs.Numbers.{heightNumbers, numbersChecks as profileNumbersChecks};
 ghost use Rattle.station_report.specs.Report.{sheetChecks, sheetText};
 ghost use Rattle.pokyandi.specs.Answers.{answerNumber};
 ghost use Rattle.pokyandi.specs.Calls.{sheetStations, sheetPegChecks, sheetPeg, checkReply, sheetNumbers, numbersSheet, pointNumbers, elementNumbers, version};
@@ -121,6 +122,17 @@ pub extern "C" fn pokyandi_elements(
     answer_number(curve_numbers(deflection, radius, spiral, &mut *numbers))
 }
 
+// The height of a profile at a station in mm (document 02, N5), in mm: one number at the front of `height`. The profile is V, start, start height and
+// first grade, then station, outgoing grade and curve length of each vertex, in mm and millionths. Refusals 3 (other than 4 + 3 × n numbers, or over
+// 32 vertices), 4, 6, then 22, 21 and 23, each vertex by vertex, then 17 for a station outside the profile, then 16.
+#[no_mangle]
+pub extern "C" fn pokyandi_height(profile: &[i64], station: u64, height: &mut [i64]) -> u64
+    ensures answer { λ r. ⌜ r ≡ answerNumber (fill (profileNumbersChecks (now (profile .entry)) station) (heightNumbers (now (profile .entry)) station) (now (height .entry)) .reply) ⌝ }
+    ensures memory { λ _. ⌜ now (height .exit) ≡ fill (profileNumbersChecks (now (profile .entry)) station) (heightNumbers (now (profile .entry)) station) (now (height .entry)) .buffer ⌝ }
+{
+    answer_number(profile_numbers::height(profile, station, &mut *height))
+}
+
 // What the program `stations` prints for these bytes, of which it reads 707 at most, at the front of `text`. Refusal 16.
 #[no_mangle]
 pub extern "C" fn pokyandi_text(sheet: &[u8], text: &mut [u8]) -> u64
@@ -135,5 +147,5 @@ pub extern "C" fn pokyandi_text(sheet: &[u8], text: &mut [u8]) -> u64
 pub extern "C" fn pokyandi_version() -> u64
     ensures answer { λ r. ⌜ r ≡ version ⌝ }
 {
-    5000
+    6000
 }

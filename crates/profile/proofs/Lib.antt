@@ -2,3 +2,4 @@
 pub mod InRange
 pub mod Bounds
 pub mod Walk
+pub mod Numbers
