@@ -3,3 +3,6 @@ pub mod InRange
 pub mod Bounds
 pub mod Walk
 pub mod Numbers
+pub mod Prolonged
+pub mod HeightLaws
+pub mod Unused

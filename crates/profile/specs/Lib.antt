@@ -4,3 +4,4 @@ pub mod Checks
 pub mod HeightAt
 pub mod Checked
 pub mod HeightLaws
+pub mod Alike
