@@ -6,3 +6,4 @@ pub mod Numbers
 pub mod Prolonged
 pub mod HeightLaws
 pub mod Unused
+pub mod Examples

@@ -1,2 +1,3 @@
 -- What the contracts of `profile_numbers` cite.
 pub mod Numbers
+pub mod Fields
