@@ -3,7 +3,7 @@ use mathlib.Core.Path.{_≡_, refl, sym, _∙_, ap}
 use Prim.Native.Nat.{ℕ, zero, suc, _+_, _*_, _/_, _<_}
 use native.Mathlib.Nat.{zero-div}
 use native.Mathlib.Omega.{arith}
-use lib.IntN.{ℤ, pos, negsuc, negℤ, _+ℤ_, _-ℤ_, _*ℤ_}
+use lib.IntN.{ℤ, pos, negℤ, _+ℤ_, _-ℤ_, _*ℤ_}
 use lib.Signed.{_≤ℤ_}
 use Rattle.numbers.specs.Whole.{down}
 use Rattle.numbers.proofs.Signs.{negative-times, turned-difference}
@@ -19,10 +19,10 @@ fallen (suc n) m = (suc (n / m), refl)
 
 -- A grade, and the same with what the curve rises above it, or falls below it, by a square.
 module _ (line : ℤ) (n m g : ℕ) {d : ℤ} where
-  pub risen : d ≡ pos g → down line 1000000 ≤ℤ down (line +ℤ down (d *ℤ pos n) m) 1000000
+  risen : d ≡ pos g → down line 1000000 ≤ℤ down (line +ℤ down (d *ℤ pos n) m) 1000000
   risen e = rw e (down-rises 1000000 (omega arith) (sum-above line (g * n / m)))
 
-  pub sunk : d ≡ negℤ (pos g) → down (line +ℤ down (d *ℤ pos n) m) 1000000 ≤ℤ down line 1000000
+  sunk : d ≡ negℤ (pos g) → down (line +ℤ down (d *ℤ pos n) m) 1000000 ≤ℤ down line 1000000
   sunk e =
       let f = fallen (g * n) m in
       rw (e, negative-times (pos g) (pos n), f .1) (down-rises 1000000 (omega arith) (difference-below line (f .0)))

@@ -1,9 +1,8 @@
 -- A pass over the vertices: one check more that holds, and the first that does not. Assumes nothing.
 use mathlib.Core.Path.{_≡_, sym, _∙_, ap}
 use mathlib.Core.Bool.{Bool, true, false}
-use Prim.Native.Nat.{ℕ, suc, _+_, _<_}
-use native.Mathlib.Numerals.{add-one}
-use Rattle.refusals.specs.Outcomes.{Outcome, passed, refused, need, firstOf}
+use Prim.Native.Nat.{ℕ, suc, _<_}
+use Rattle.refusals.specs.Outcomes.{passed, refused, need, firstOf}
 use Rattle.refusals.specs.Order.{Checks, inTurn, outcome}
 use Rattle.refusals.proofs.Joining.{join}
 use Rattle.refusals.proofs.InTurn.{first-refused}

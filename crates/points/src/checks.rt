@@ -9,6 +9,7 @@ ghost use Rattle.coordinates.specs.FromPoints.{countChecks, coordinateCheck};
 use refusals::Refusal;
 use refusals::Verdict;
 use refusals::must;
+use signed::size;
 
 // Refusal 3: other than two numbers for each point and two for each PI, or other than 2 to 66 points.
 pub(crate) fn check_counts(points: &[i64], curves: &[u32]) -> Verdict
@@ -31,11 +32,7 @@ pub(crate) fn check_counts(points: &[i64], curves: &[u32]) -> Verdict
 fn in_range(coordinate: i64) -> bool
     ensures { λ r. ⌜ r ≡ leb (natAbs coordinate) 10000000 ⌝ }
 {
-    if coordinate < -10000000 {
-        false
-    } else {
-        coordinate <= 10000000
-    }
+    size(coordinate) <= 10000000
 }
 
 // Refusal 18.

@@ -7,6 +7,7 @@ ghost use Rattle.coordinates.specs.Legs.{stepAt, legAt, lengthOf, crossOf, dotO
 ghost use Rattle.points.specs.Reach.{InReach, Short};
 use arithmetic::root;
 use coordinates::Leg;
+use signed::size;
 
 fn minus(x: i64, y: i64) -> i64
     requires { ⌜ (natAbs x ≤ 1000000000000000) × (natAbs y ≤ 1000000000000000) ⌝ }
@@ -27,14 +28,6 @@ fn times(x: i64, y: i64) -> i64
     ensures { λ r. ⌜ (r ≡ x *ℤ y) × (natAbs r ≤ 400000000000000) ⌝ }
 {
     x * y
-}
-
-// A number without its sign.
-pub(crate) fn size(x: i64) -> u64
-    requires { ⌜ natAbs x ≤ 1000000000000000 ⌝ }
-    ensures { λ r. ⌜ r ≡ natAbs x ⌝ }
-{
-    if x < 0 { minus(0, x) as u64 } else { x as u64 }
 }
 
 // From coordinate k to the same one of the next point.

@@ -20,7 +20,6 @@ use crate::legs::cross;
 use crate::legs::distance;
 use crate::legs::dot;
 use crate::legs::leg;
-use crate::legs::size;
 use calculator::line_lengths;
 use line::Curve;
 use line::Line;
@@ -30,6 +29,7 @@ use refusals::Refusal;
 use refusals::Verdict;
 use refusals::first;
 use refusals::must;
+use signed::size;
 use turns::turn;
 
 // The turn at a PI: to the left or else to the right, and by how many seconds; 216,001 for every turn that 20 refuses.

@@ -1,9 +1,9 @@
 -- Stations of a profile in range ascend, and heights at vertices stay within 34 km. Assumes nothing.
-use mathlib.Core.Path.{_≡_, ap}
+use mathlib.Core.Path.{_≡_}
 use Prim.Native.Nat.{ℕ, zero, suc, _+_, _-_, _*_, _/_, _≤_, _<_}
 use native.Mathlib.Nat.{mul-le-mul-right}
 use native.Mathlib.Omega.{arith}
-use lib.IntN.{ℤ, pos, natAbs, _+ℤ_, _*ℤ_}
+use lib.IntN.{pos, natAbs, _*ℤ_}
 use Rattle.numbers.proofs.Differences.{minus-le}
 use Rattle.signed.proofs.Sizes.{size-sum, size-product}
 use Rattle.profile.specs.declared.Profile.{Profile}
@@ -27,7 +27,7 @@ module _ (p : Profile) (ok : ProfileInRange p) where
   pub rises : (i : ℕ) → i < p .count → stationOf p i ≤ stationOf p (suc i)
   rises i h = let c = curve-place i h in omega (arith, c .0, c .1, c .2)
 
-  pub height-most : (k : ℕ) → k ≤ p .count → natAbs (heightOf p k) ≤ 10000000000000 + 120000 * stationOf p k
+  height-most : (k : ℕ) → k ≤ p .count → natAbs (heightOf p k) ≤ 10000000000000 + 120000 * stationOf p k
   unfolding heightOf
   height-most zero l = omega (arith, size-product (p .height) (pos 1000000), ok .high)
   height-most (suc k) l =

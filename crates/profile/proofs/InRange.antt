@@ -13,8 +13,8 @@ use Rattle.refusals.proofs.InOrder.{all-hold}
 use Rattle.line.specs.Checks.{within}
 use Rattle.profile.specs.declared.Profile.{Profile}
 use Rattle.profile.specs.Vertices.{stationOf, gradeOf, lengthOf, endOf}
-use Rattle.profile.specs.Checks.{greatestStation, stationCheck, heightCheck, gradeCheck, curveFits, lengthCheck, rangeChecks, askedCheck}
-use Rattle.profile.specs.Checked.{ProfileInRange, Asked}
+use Rattle.profile.specs.Checks.{greatestStation, stationCheck, heightCheck, gradeCheck, curveFits, lengthCheck, rangeChecks}
+use Rattle.profile.specs.Checked.{ProfileInRange}
 
 -- The four conditions of a curve's length.
 pub record Fits (end station length : ℕ) : Type 0 where
@@ -64,12 +64,3 @@ module _ (p : Profile) (h : outcome (rangeChecks p) ≡ passed) where
         most = λ i l. fits i l .most;
         after = λ i l. fits i l .after;
       }
-
-pub asked : (p : Profile) (station : ℕ) → outcome (askedCheck p station) ≡ passed → Asked p station
-unfolding askedCheck
-asked p station h =
-    let held = all-hold (askedCheck p station) h in
-    record {
-      from = leb-true (p .start) station (both-left (leb (p .start) station) (leb station greatestStation) held);
-      known = leb-true station greatestStation (both-right (leb (p .start) station) (leb station greatestStation) held);
-    }

@@ -1,16 +1,16 @@
 -- The grades of a curve prolonged into it, by the distance x from its beginning. Assumes nothing.
-use mathlib.Core.Path.{_≡_, refl, sym, _∙_, ap}
-use Prim.Native.Nat.{ℕ, suc, _+_, _-_, _*_, _/_, _≤_, _<_}
+use mathlib.Core.Path.{_≡_, sym, _∙_, ap}
+use Prim.Native.Nat.{ℕ, suc, _+_, _-_, _/_, _≤_, _<_}
 use native.Mathlib.Omega.{arith}
-use lib.IntN.{ℤ, pos, negℤ, _+ℤ_, _-ℤ_, _*ℤ_, +ℤ-assoc, +ℤ-comm}
+use lib.IntN.{ℤ, pos, negℤ, _+ℤ_, _-ℤ_, _*ℤ_, +ℤ-assoc}
 use Rattle.numbers.proofs.Integers.{swap, product-sum}
 use Rattle.numbers.proofs.Signs.{moved-difference}
 use Rattle.numbers.specs.Whole.{_÷_}
 use Rattle.grades.specs.Heights.{alongGrade, heightOn}
 use Rattle.profile.specs.declared.Profile.{Profile}
-use Rattle.profile.specs.Vertices.{stationOf, gradeOf, lengthOf, beginOf, endOf, runTo, heightOf}
+use Rattle.profile.specs.Vertices.{stationOf, gradeOf, lengthOf, beginOf, runTo, heightOf}
 use Rattle.profile.specs.Checked.{ProfileInRange}
-use Rattle.profile.specs.HeightAt.{onGrade, beginHeight, inCurve}
+use Rattle.profile.specs.HeightAt.{onGrade, beginHeight}
 use Rattle.profile.proofs.Bounds.{curve-place}
 
 -- Along a grade and on along it.

@@ -5,7 +5,6 @@ use Prim.Native.Nat.{ℕ, suc, _-_, _≤_, _<_}
 use native.Mathlib.Omega.{arith}
 use borrow.Author.Tests.{le-leb, lt-leb}
 use lib.Dec.{leb}
-use lib.IntN.{ℤ}
 use Rattle.profile.specs.declared.Profile.{Profile}
 use Rattle.profile.specs.Vertices.{beginOf, endOf}
 use Rattle.profile.specs.HeightAt.{onGrade, inCurve, heightFrom}

@@ -1,6 +1,5 @@
 -- What the checks have shown of a profile and of a station, as facts.
 use mathlib.Core.Path.{_≡_}
-use mathlib.Core.Bool.{true}
 use Prim.Native.Nat.{ℕ, suc, _+_, _*_, _/_, _%_, _≤_, _<_}
 use lib.IntN.{natAbs}
 use Rattle.profile.specs.declared.Profile.{Profile}

@@ -1,6 +1,6 @@
 -- What heights of a profile that is accepted have, in terms of its grades and curves: the statement of the law in `proofs/HeightLaws.antt`.
 use mathlib.Core.Path.{_≡_}
-use Prim.Native.Nat.{ℕ, zero, suc, _≤_, _<_}
+use Prim.Native.Nat.{ℕ, suc, _≤_, _<_}
 use lib.IntN.{pos, _-ℤ_}
 use lib.Signed.{_≤ℤ_}
 use Rattle.profile.specs.declared.Profile.{Profile}

@@ -1,8 +1,7 @@
--- "Numbers that do not fit the fields are refused by the check of their range, never wrapped": where the checks pass, each field is the number that
--- was given for it. Assumes nothing.
-use mathlib.Core.Path.{_≡_, refl, sym, _∙_, ap}
+-- No number is wrapped: where the checks pass, each field is the number that was given for it. Assumes nothing.
+use mathlib.Core.Path.{_≡_, refl, _∙_, ap}
 use mathlib.Core.List.{List}
-use Prim.Native.Nat.{ℕ, zero, suc, _+_, _*_, _≤_, _<_}
+use Prim.Native.Nat.{ℕ, suc, _+_, _*_, _≤_}
 use native.Mathlib.Omega.{arith}
 use lib.IntN.{ℤ, pos, negsuc}
 use Rattle.refusals.specs.Outcomes.{passed}

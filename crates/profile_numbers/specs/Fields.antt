@@ -5,7 +5,7 @@ use lib.IntN.{ℤ, pos}
 use mathlib.Core.List.{List}
 use Rattle.profile.specs.declared.Profile.{Profile}
 use Rattle.profile.specs.Vertices.{stationOf, gradeOf, lengthOf}
-use Rattle.profile_numbers.specs.Numbers.{numberAt, profileOf}
+use Rattle.profile_numbers.specs.Numbers.{numberAt}
 
 -- Each field is the number that was given for it.
 pub record FieldsAre (numbers : List ℤ) (p : Profile) : Type 0 where

@@ -1,5 +1,5 @@
--- A profile as numbers, for callers in other languages: "V, start, start height, first grade, then station, grade, length for each vertex", in
--- document 02's units (N5). The form is this project's own (docs/library.md).
+-- A profile as numbers, for callers in other languages: V, start, start height, first grade, then station, outgoing grade and curve length of each
+-- vertex, in document 02's units (N5). The form is this project's own (docs/library.md).
 use mathlib.Core.List.{List, [], _∷_}
 use Prim.Native.Nat.{ℕ, _+_, _-_, _*_, _/_}
 use lib.Dec.{leb, eqb}
@@ -18,7 +18,7 @@ vertexCount numbers = (length numbers - 4) / 3
 abbrev pub numberAt : List ℤ → ℕ → ℤ
 numberAt numbers index = getD numbers index (pos 0)
 
--- "Numbers that do not fit the fields are refused by the check of their range, never wrapped": one below zero, where a field has none, becomes the
+-- A number that does not fit its field is refused by the check of its range, and never wrapped: one below zero, where a field has none, becomes the
 -- greatest number of the field, which no range has.
 unfoldable pub unsigned : ℤ → ℕ
 unsigned (pos n) = n
@@ -38,15 +38,15 @@ profileOf numbers =
       lengths = entries 32 (vertexCount numbers) (λ i. unsigned (numberAt numbers (4 + 3 * i + 2))) 0;
     }
 
--- "A count of numbers other than 4 + 3 × k is refused 3 before all else"
+-- 3, before all else: a count of numbers other than 4 + 3 × n
 unfoldable pub countCheck : List ℤ → Checks
 countCheck numbers = check (eqb (length numbers) (4 + 3 * vertexCount numbers)) 3 0
 
--- "refusals as above, then 16"
+-- Then those of the profile and of the station; 16 comes with the buffer.
 unfoldable pub numbersChecks : List ℤ → (station : ℕ) → Checks
 numbersChecks numbers station = countCheck numbers ⨾ heightChecks (profileOf numbers) station
 
--- "one number out"
+-- One number: the height.
 unfoldable pub heightNumbers : List ℤ → (station : ℕ) → List ℤ
 heightNumbers numbers station = heightBy (profileOf numbers) station ∷ []
 

@@ -1,9 +1,9 @@
 -- Stopping distances, and the least lengths of crests and sags at each speed, by computation. Assumes nothing.
 use mathlib.Core.Path.{_≡_, refl}
 use mathlib.Core.Bool.{Bool, true, not, _&&_}
-use mathlib.Core.List.{List, [], _∷_, map}
+use mathlib.Core.List.{[], _∷_, map}
 use Prim.Native.Nat.{ℕ, _-_}
-use lib.IntN.{ℤ, pos, negℤ}
+use lib.IntN.{pos, negℤ}
 use Rattle.numbers.specs.Fractions.{whole, _⊕_, _⊗_, _⊘_, _↑_, over, ratio}
 use Rattle.line.specs.Speeds.{speeds, underSpeed}
 use Rattle.sight.specs.Sight.{longEnough, sightServes}

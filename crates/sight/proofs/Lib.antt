@@ -1,3 +1,4 @@
 -- Laws of sight.
 pub mod PublishedLengths
+pub mod RoundedUp
 pub mod Examples

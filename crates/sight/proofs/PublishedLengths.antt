@@ -1,18 +1,19 @@
 -- A curve passes the test by whole products exactly where it has document 001's least length. Assumes nothing.
 use mathlib.Core.Path.{_≡_, refl, sym, _∙_, ap, subst}
 use mathlib.Core.Bool.{Bool, true, false, cond}
-use Prim.Native.Nat.{ℕ, zero, suc, _+_, _-_, _*_, _≤_, _<_}
-use native.Mathlib.Nat.{mul-le-mul-right, le-of-mul-le-mul-right, mul-assoc}
+use Prim.Native.Nat.{ℕ, suc, _+_, _*_, _≤_, _<_}
+use native.Mathlib.Nat.{mul-le-mul-right, le-of-mul-le-mul-right}
 use native.Mathlib.Omega.{arith}
-use lib.Dec.{T, ltb, leb, leb→le, le→leb}
-use lib.IntN.{ℤ, pos, negsuc, _-ℤ_, _*ℤ_}
-use lib.Signed.{leZ, _≤ℤ_}
-use borrow.Author.Tests.{le-leb, lt-leb, leb-true, ltb-true, ltb-false}
+use lib.Dec.{T, leb, leb→le, le→leb}
+use lib.IntN.{ℤ, pos, negsuc, negℤ, _-ℤ_, _*ℤ_, +ℤ-invr}
+use lib.Signed.{leZ}
+use borrow.Author.Tests.{le-leb, lt-leb, leb-true, lt-ltb}
 use Rattle.numbers.specs.Fractions.{Fraction, nat, whole, _⊕_, _⊖_, _⊗_, _⊘_, _↑_, over, ratio, _≼_}
 use Rattle.numbers.proofs.Products.{products}
 use Rattle.numbers.proofs.Differences.{stays-below}
 use Rattle.numbers.proofs.Integers.{difference-times}
-use Rattle.sight.specs.Sight.{longEnough, crestTenths, sagTenths}
+use Rattle.numbers.proofs.Signs.{turned-difference}
+use Rattle.sight.specs.Sight.{longEnough, sightServes, crestTenths, sagTenths}
 use Rattle.sight.specs.Formulas.{firstCase, secondCase, onCrest, inSag, metres, percent, Published}
 
 -- A factor above zero goes out of both sides.
@@ -75,7 +76,7 @@ module _ (D L change tenths t : ℕ) (K : Fraction) (top : K .top ≡ pos (suc t
   unfolding longEnough
   first-test h = rw (le-leb (1000 * D) L h)
 
-  pub first-case : 1000 * D ≤ L
+  first-case : 1000 * D ≤ L
       → (longEnough D L change tenths ≡ true → firstCase D (percent change) K ≼ metres L)
       × (firstCase D (percent change) K ≼ metres L → longEnough D L change tenths ≡ true)
   first-case h = (
@@ -128,26 +129,39 @@ module _ (D L change tenths t : ℕ) (K : Fraction) (top : K .top ≡ pos (suc t
       (omega (arith, l, second-left D L (suc change) tenths t (K .under) tenth, second-right D L (suc change) tenths t (K .under) tenth))
 
 module _ (D L tenths t : ℕ) (K : Fraction) (top : K .top ≡ pos (suc t)) (tenth : suc t * 10 ≡ tenths * K .under) where
-  second-case : (change : ℕ) → L < 1000 * D → 0 < change
-      → (longEnough D L change tenths ≡ true → secondCase D (percent change) K ≼ metres L)
-      × (secondCase D (percent change) K ≼ metres L → longEnough D L change tenths ≡ true)
-  second-case zero h some = absurd (omega arith)
-  second-case (suc change) h some = (
+  second-case : (change : ℕ) → L < 1000 * D
+      → (longEnough D L (suc change) tenths ≡ true → secondCase D (percent (suc change)) K ≼ metres L)
+      × (secondCase D (percent (suc change)) K ≼ metres L → longEnough D L (suc change) tenths ≡ true)
+  second-case change h = (
     λ e. second-holds D L change tenths t K top tenth
         (leb-true (2000 * D * suc change) (L * suc change + tenths * 1000000) (sym (second-test D L (suc change) tenths t K top tenth h) ∙ e)),
     λ c. second-test D L (suc change) tenths t K top tenth h
         ∙ le-leb (2000 * D * suc change) (L * suc change + tenths * 1000000) (second-tells D L change tenths t K top tenth c),
   )
 
-  published : (change : ℕ) → Published D L change tenths K
-  published change = record { first = first-case D L change tenths t K top tenth; second = second-case change }
+  published : (change : ℕ) {test : Bool} → longEnough D L (suc change) tenths ≡ test → Published test D L (suc change) K
+  published change e =
+      subst (λ (b : Bool). Published b D L (suc change) K) e
+      (record { first = first-case D L (suc change) tenths t K top tenth; second = second-case change })
 
--- On a crest,
-pub crest-published : (D L change : ℕ) → Published D L change crestTenths onCrest
-unfolding whole
-crest-published D L change = published D L crestTenths 411 onCrest refl refl change
+module _ (D L n : ℕ) (i1 i2 : ℤ) where
+  -- A crest, whose incoming grade is the greater one,
+  pub crest-published : i1 -ℤ i2 ≡ pos (suc n) → Published (sightServes D i1 i2 L) D L (suc n) onCrest
+  unfolding whole sightServes
+  crest-published e = published D L crestTenths 411 onCrest refl refl n (rw (e, lt-ltb 0 (suc n) (omega arith)))
 
--- and in a sag.
-pub sag-published : (D L change : ℕ) → Published D L change (sagTenths D) (inSag D)
-unfolding inSag whole _⊕_ _⊗_ _⊘_
-sag-published D L change = published D L (sagTenths D) (1219 + 35 * D) (inSag D) (ap pos (omega arith)) (omega arith) change
+  -- and a sag, whose outgoing grade is.
+  pub sag-published : i2 -ℤ i1 ≡ pos (suc n) → Published (sightServes D i1 i2 L) D L (suc n) (inSag D)
+  unfolding inSag whole _⊕_ _⊗_ _⊘_ sightServes
+  sag-published e =
+      let d : i1 -ℤ i2 ≡ negsuc n = sym (turned-difference i2 i1) ∙ ap negℤ e in
+      published D L (sagTenths D) (1219 + 35 * D) (inSag D) (ap pos (omega arith)) (omega arith) n (rw d)
+
+-- Without a change of grade each length serves.
+pub level-serves : (D L : ℕ) (i : ℤ) → sightServes D i i L ≡ true
+unfolding sightServes longEnough
+level-serves D L i = rw (+ℤ-invr i) (go (leb (1000 * D) L))
+  where
+    go : (t : Bool) → cond t (leb (D * D * 0) (L * sagTenths D)) (leb (2000 * D * 0) (L * 0 + sagTenths D * 1000000)) ≡ true
+    go true = le-leb (D * D * 0) (L * sagTenths D) (omega arith)
+    go false = le-leb (2000 * D * 0) (L * 0 + sagTenths D * 1000000) (omega arith)

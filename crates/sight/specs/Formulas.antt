@@ -1,13 +1,12 @@
 -- Source document 001's formulas, in fractions: the stopping distance Dp, and the least length of a vertical curve, in m, with A in percent.
 use mathlib.Core.Path.{_≡_}
-use mathlib.Core.Bool.{true}
+use mathlib.Core.Bool.{Bool, true}
 use mathlib.Core.List.{List, [], _∷_}
 use Prim.Native.Nat.{ℕ, _*_, _≤_, _<_}
 use lib.IntN.{natAbs, negℤ}
 use Rattle.numbers.specs.Whole.{down}
 use Rattle.numbers.specs.Fractions.{Fraction, nat, _⊕_, _⊖_, _⊗_, _⊘_, _↑_, ratio, _≼_}
 use Rattle.line.specs.Speeds.{speeds, underSpeed}
-use Rattle.sight.specs.Sight.{longEnough}
 
 -- "Coeficiente de atrito longitudinal", in hundredths, 40 to 120 km/h; document 02: "Speed 110, not in its table, takes 0.25."
 abbrev pub frictionsAlong : List ℕ
@@ -17,7 +16,7 @@ frictionsAlong = 37 ∷ 35 ∷ 33 ∷ 31 ∷ 30 ∷ 29 ∷ 28 ∷ 25 ∷ 25 ∷ 
 unfoldable pub stopping : ℕ → Fraction
 stopping v = nat 7 ⊗ nat v ⊘ 10 ⊕ ratio (nat v ↑ 2) (nat 255 ⊗ nat (underSpeed v speeds frictionsAlong) ⊘ 100)
 
--- The least whole number that is not below a fraction: minus the quotient of minus its top, rounded down.
+-- The least whole number that is not below a fraction, itself not below zero: minus the quotient of minus its top, rounded down.
 unfoldable pub roundedUp : Fraction → ℕ
 roundedUp u = natAbs (negℤ (down (negℤ (u .top)) (u .under)))
 
@@ -47,12 +46,9 @@ metres L = nat L ⊘ 1000
 abbrev pub percent : ℕ → Fraction
 percent g = nat g ⊘ 10000
 
--- The test by whole products says what a formula says, whose K has `tenths` tenths: in the first case, and in the second where there is a change
--- of grade to divide by.
-pub record Published (D L change tenths : ℕ) (K : Fraction) : Type 0 where
+-- A test of a curve's length passes exactly where the curve has the least length of the formula, by the case that its length calls for.
+pub record Published (test : Bool) (D L change : ℕ) (K : Fraction) : Type 0 where
   pub first : 1000 * D ≤ L
-      → (longEnough D L change tenths ≡ true → firstCase D (percent change) K ≼ metres L)
-      × (firstCase D (percent change) K ≼ metres L → longEnough D L change tenths ≡ true)
-  pub second : L < 1000 * D → 0 < change
-      → (longEnough D L change tenths ≡ true → secondCase D (percent change) K ≼ metres L)
-      × (secondCase D (percent change) K ≼ metres L → longEnough D L change tenths ≡ true)
+      → (test ≡ true → firstCase D (percent change) K ≼ metres L) × (firstCase D (percent change) K ≼ metres L → test ≡ true)
+  pub second : L < 1000 * D
+      → (test ≡ true → secondCase D (percent change) K ≼ metres L) × (secondCase D (percent change) K ≼ metres L → test ≡ true)

@@ -1,12 +1,12 @@
 -- The sizes of sums, differences, products and quotients of whole numbers, which keep them in 64 bits. Assumes nothing.
-use mathlib.Core.Path.{_≡_, refl, sym, _∙_, ap}
+use mathlib.Core.Path.{_≡_, refl}
 use mathlib.Core.Bool.{Bool, true, false, cond}
-use Prim.Native.Nat.{ℕ, zero, suc, _+_, _-_, _*_, _/_, _≤_, _<_}
+use Prim.Native.Nat.{ℕ, suc, _+_, _-_, _*_, _≤_, _<_}
 use native.Mathlib.Nat.{div-le-self}
 use native.Mathlib.Omega.{arith}
-use lib.Dec.{T, ltb}
+use lib.Dec.{ltb}
 use lib.IntN.{ℤ, pos, negsuc, negℤ, natAbs, subℕ, _+ℤ_, _-ℤ_, _*ℤ_}
-use lib.Signed.{ltZ, nonNeg, mag}
+use lib.Signed.{ltZ, mag}
 use mir.Syntax.{w64}
 use mir.Val.{SFits, toZ, ofZ}
 use mir.Facts.{toZ-ofZ}
@@ -48,6 +48,14 @@ small-fits (negsuc a) h = record { sfits = omega arith }
 -- So it is what the machine holds.
 pub held : (z : ℤ) → natAbs z ≤ 4611686018427387904 → toZ w64 (ofZ w64 z) ≡ z
 held z h = toZ-ofZ (small-fits z h)
+
+-- The code's operation on two numbers, where the result fits.
+module _ (op : ℤ → ℤ → ℤ) (x y : ℤ) (f : SFits w64 x) (g : SFits w64 y) (h : SFits w64 (op x y)) where
+  pub op-fits : SFits w64 (op (toZ w64 (ofZ w64 x)) (toZ w64 (ofZ w64 y)))
+  op-fits = rw (toZ-ofZ f, toZ-ofZ g) h
+
+  pub op-held : toZ w64 (ofZ w64 (op (toZ w64 (ofZ w64 x)) (toZ w64 (ofZ w64 y)))) ≡ op x y
+  op-held = rw (toZ-ofZ f, toZ-ofZ g) (toZ-ofZ h)
 
 -- A number below zero, and one that is not.
 pub below : (x : ℤ) → ltZ x (pos 0) ≡ true → x ≡ negsuc (mag x)

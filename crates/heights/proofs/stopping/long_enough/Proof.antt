@@ -1,4 +1,5 @@
 -- `long_enough`: the products fit. Assumes nothing.
+use mathlib.Core.Path.{refl}
 use Prim.Native.Nat.{ℕ, _*_, _≤_}
 use native.Mathlib.Nat.{mul-le-mul}
 use native.Mathlib.Omega.{arith}
@@ -49,11 +50,11 @@ add-result c = omega (arith, long-most (c .before .args .length) (c .before .arg
 
 returns : tie.Need-returns
 unfolding longEnough
-returns c = rw (le-leb (1000 * c .before .args .distance) (c .before .args .length) (omega arith))
+returns c = rw (le-leb (1000 * c .before .args .distance) (c .before .args .length) (omega arith)) refl
 
 returns-2 : tie.Need-returns-2
 unfolding longEnough
-returns-2 c = rw (lt-leb (1000 * c .before .args .distance) (c .before .args .length) (omega arith))
+returns-2 c = rw (lt-leb (1000 * c .before .args .distance) (c .before .args .length) (omega arith)) refl
 
 pub long-enough-spec : {M : Type 1} → statement M
 long-enough-spec =

@@ -1,20 +1,17 @@
 -- `height_along`: after i vertices the locals are height, grade and station of vertex i, and the answer is the one from vertex i on. Assumes nothing.
 use mathlib.Core.Path.{_≡_, refl, sym, _∙_, ap}
-use mathlib.Core.Bool.{cond}
-use Prim.Native.Nat.{ℕ, suc, _+_, _-_, _/_, _≤_, _<_}
+use Prim.Native.Nat.{ℕ, suc, _-_, _≤_, _<_}
 use native.Mathlib.Numerals.{add-one}
 use native.Mathlib.Omega.{arith}
 use borrow.Author.Needs.{needs}
-use lib.Dec.{leb}
-use lib.IntN.{ℤ, pos}
+use lib.IntN.{pos}
 use lib.ListN.{getD}
 use mir.Syntax.{w64}
 use mir.Val.{toZ}
-use mir.Facts.{toZ-ofZ}
 use Rattle.signed.proofs.Sizes.{held, kept}
-use Rattle.grades.specs.Heights.{alongGrade, heightOn, heightIn}
-use Rattle.profile.specs.Vertices.{stationOf, gradeOf, lengthOf, beginOf, endOf, heightOf}
-use Rattle.profile.specs.HeightAt.{onGrade, beginHeight, inCurve, heightFrom, heightBy}
+use Rattle.grades.specs.Heights.{alongGrade, heightOn}
+use Rattle.profile.specs.Vertices.{stationOf, gradeOf, lengthOf, endOf, heightOf}
+use Rattle.profile.specs.HeightAt.{onGrade, heightFrom, heightBy}
 use Rattle.profile.proofs.Bounds.{run-forward, curve-place, rises, height-carried}
 use Rattle.profile.proofs.Walk.{past, here}
 use Rattle.heights.specs.Between.{heightBetween}

@@ -1,23 +1,20 @@
 -- `minus`: the difference fits. Assumes nothing.
-use mathlib.Core.Path.{refl}
 use native.Mathlib.Omega.{arith}
 use lib.IntN.{_-ℤ_}
-use mir.Facts.{toZ-ofZ}
-use Rattle.signed.proofs.Sizes.{size-difference, small-fits, held}
+use Rattle.signed.proofs.Sizes.{size-difference, small-fits, op-fits, op-held}
 use Rattle.heights.proofs.whole.minus.Statement.{statement}
 use Rattle.heights.proofs.whole.minus.Tie as tie
 
 sub-result : tie.Need-sub-result
 sub-result c =
-    let x = c .args .x in
-    let y = c .args .y in
-    rw (toZ-ofZ (c .fits .x), toZ-ofZ (c .fits .y)) (small-fits (x -ℤ y) (omega (arith, size-difference x y)))
+    let a = c .args in
+    op-fits _-ℤ_ (a .x) (a .y) (c .fits .x) (c .fits .y) (small-fits (a .x -ℤ a .y) (omega (arith, size-difference (a .x) (a .y))))
 
 returns : tie.Need-returns
 returns c =
-    let x = c .args .x in
-    let y = c .args .y in
-    rw (toZ-ofZ (c .fits .x), toZ-ofZ (c .fits .y), held (x -ℤ y) (omega (arith, size-difference x y))) (refl, size-difference x y)
+    let a = c .args in
+    let is = op-held _-ℤ_ (a .x) (a .y) (c .fits .x) (c .fits .y) (small-fits (a .x -ℤ a .y) (omega (arith, size-difference (a .x) (a .y)))) in
+    (is, rw is (size-difference (a .x) (a .y)))
 
 pub minus-spec : {M : Type 1} → statement M
 minus-spec = tie.close (tie.spec sub-result returns)

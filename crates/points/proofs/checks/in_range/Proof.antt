@@ -1,16 +1,16 @@
--- `in_range`: both tests together. Assumes nothing.
+-- `in_range`: by the size. Assumes nothing.
+use mathlib.Core.Path.{ap}
+use Prim.Native.Nat.{ℕ}
+use lib.Dec.{leb}
 use mir.Facts.{toZ-ofZ}
-use Rattle.points.proofs.Sizes.{below-range, above-range}
 use Rattle.points.proofs.checks.in_range.Statement.{statement}
 use Rattle.points.proofs.checks.in_range.Tie as tie
 
-returns : tie.Need-returns
-returns c = below-range (c .before .args .coordinate) (rw (toZ-ofZ (c .before .fits .coordinate)) at (c .if1 .taken))
+size-requires : tie.Need-size-requires
+size-requires c κs = tt
 
-returns-2 : tie.Need-returns-2
-returns-2 c =
-    rw (toZ-ofZ (c .before .fits .coordinate))
-    (above-range (c .before .args .coordinate) (rw (toZ-ofZ (c .before .fits .coordinate)) at (c .if1 .left)))
+returns : tie.Need-returns
+returns c = ap (λ (n : ℕ). leb n 10000000) (rw (toZ-ofZ (c .before .fits .coordinate)) at (c .size .ensures))
 
 pub in-range-spec : {M : Type 1} → statement M
-in-range-spec = tie.close (tie.spec returns returns-2)
+in-range-spec = tie.close (tie.spec size-requires returns)

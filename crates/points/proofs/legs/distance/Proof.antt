@@ -4,18 +4,16 @@ use Prim.Native.Nat.{_+_, _*_}
 use native.Mathlib.Omega.{arith}
 use Rattle.arithmetic.specs.Largest.{rootOf}
 use Rattle.coordinates.specs.Legs.{lengthOf}
-use Rattle.points.proofs.Sizes.{held, side, root-fits}
+use Rattle.points.proofs.Sizes.{side, root-fits}
 use borrow.Author.Needs.{needs}
 use Rattle.points.proofs.legs.distance.Statement.{statement}
 use Rattle.points.proofs.legs.distance.Tie as tie
 
 size-requires : tie.Need-size-requires
-size-requires c κs = rw (held (c .before .args .leg .east) (omega (arith, c .before .pre .east))) (omega (arith, c .before .pre .east))
+size-requires c κs = tt
 
 size-requires-2 : tie.Need-size-requires-2
-size-requires-2 c κs =
-    let start = c .before .before .before in
-    rw (held (start .args .leg .north) (omega (arith, start .pre .north))) (omega (arith, start .pre .north))
+size-requires-2 c κs = tt
 
 mul-root : tie.Need-mul-root
 mul-root c =

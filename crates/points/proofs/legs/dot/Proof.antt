@@ -3,7 +3,8 @@ use mathlib.Core.Path.{_∙_}
 use lib.IntN.{_+ℤ_}
 use native.Mathlib.Omega.{arith}
 use Rattle.coordinates.specs.Legs.{dotOf}
-use Rattle.points.proofs.Sizes.{held, product-held}
+use Rattle.signed.proofs.Sizes.{held}
+use Rattle.points.proofs.Sizes.{product-held}
 use borrow.Author.Needs.{needs}
 use Rattle.points.proofs.legs.dot.Statement.{statement}
 use Rattle.points.proofs.legs.dot.Tie as tie

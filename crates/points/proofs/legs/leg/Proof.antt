@@ -1,6 +1,6 @@
 -- `leg`: a step to the east and one to the north. Assumes nothing.
 use native.Mathlib.Omega.{arith}
-use Rattle.points.proofs.Sizes.{held}
+use Rattle.signed.proofs.Sizes.{held}
 use borrow.Author.Needs.{needs}
 use Rattle.points.proofs.legs.leg.Statement.{statement}
 use Rattle.points.proofs.legs.leg.Tie as tie

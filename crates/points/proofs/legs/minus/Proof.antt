@@ -4,7 +4,7 @@ use native.Mathlib.Omega.{arith}
 use lib.IntN.{ℤ, natAbs, _-ℤ_}
 use mir.Syntax.{w64}
 use mir.Val.{SFits}
-use Rattle.points.proofs.Sizes.{size-difference, small-fits, op-fits, op-held}
+use Rattle.signed.proofs.Sizes.{size-difference, small-fits, op-fits, op-held}
 use Rattle.points.proofs.legs.minus.Statement.{statement}
 use Rattle.points.proofs.legs.minus.Tie as tie
 

@@ -2,7 +2,7 @@
 use Prim.Native.Nat.{_+_}
 use native.Mathlib.Omega.{arith}
 use Rattle.coordinates.specs.Legs.{coordinateAt}
-use Rattle.points.proofs.Sizes.{held}
+use Rattle.signed.proofs.Sizes.{held}
 use borrow.Author.Needs.{needs}
 use Rattle.points.proofs.legs.step.Statement.{statement}
 use Rattle.points.proofs.legs.step.Tie as tie

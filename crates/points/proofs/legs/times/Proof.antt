@@ -4,7 +4,8 @@ use native.Mathlib.Omega.{arith}
 use lib.IntN.{ℤ, natAbs, _*ℤ_}
 use mir.Syntax.{w64}
 use mir.Val.{SFits}
-use Rattle.points.proofs.Sizes.{product-most, small-fits, op-fits, op-held}
+use Rattle.signed.proofs.Sizes.{small-fits, op-fits, op-held}
+use Rattle.points.proofs.Sizes.{product-most}
 use Rattle.points.proofs.legs.times.Statement.{statement}
 use Rattle.points.proofs.legs.times.Tie as tie
 

@@ -6,7 +6,7 @@ use lib.IntN.{pos}
 use lib.Signed.{ltZ}
 use Rattle.coordinates.specs.Legs.{legAt, crossOf, dotOf}
 use Rattle.points.specs.Steps.{secondsOf}
-use Rattle.points.proofs.Sizes.{held}
+use Rattle.signed.proofs.Sizes.{held}
 use borrow.Author.Needs.{needs}
 use Rattle.points.proofs.making.bend_at.Statement.{statement}
 use Rattle.points.proofs.making.bend_at.Tie as tie

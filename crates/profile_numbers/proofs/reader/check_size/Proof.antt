@@ -1,7 +1,6 @@
 -- `check_size`: one case for each way out. Assumes nothing.
 use mathlib.Core.Path.{_∙_}
 use borrow.Author.Needs.{needs}
-use native.Mathlib.Omega.{arith}
 use Rattle.profile_numbers.proofs.Sizes.{no-head, too-many, counted}
 use Rattle.profile_numbers.proofs.reader.check_size.Statement.{statement}
 use Rattle.profile_numbers.proofs.reader.check_size.Tie as tie

@@ -1,13 +1,11 @@
 -- `read`: the loop keeps the profile filled up to vertex i. Assumes nothing.
-use mathlib.Core.Path.{_≡_, refl, sym, _∙_, ap}
+use mathlib.Core.Path.{_≡_, refl, _∙_, ap}
 use Prim.Native.Nat.{_+_, _-_, _*_, _≤_}
 use native.Mathlib.Omega.{arith}
 use borrow.Author.Needs.{needs}
 use lib.ListN.{length}
-use mir.Facts.{toZ-ofZ}
 use Rattle.signed.proofs.Sizes.{kept}
-use Rattle.profile_numbers.specs.Numbers.{vertexCount, numberAt, unsigned}
-use Rattle.profile_numbers.proofs.Sizes.{sized}
+use Rattle.profile_numbers.specs.Numbers.{vertexCount, unsigned}
 use Rattle.profile_numbers.proofs.Filling.{profileTo, profile-begun, profile-goes-on, profile-done}
 use Rattle.profile_numbers.proofs.reader.read.Statement.{statement}
 use Rattle.profile_numbers.proofs.reader.read.Tie as tie
