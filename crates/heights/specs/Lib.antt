@@ -1,2 +1,3 @@
 -- What the private steps of `heights` promise.
 pub mod Between
+pub mod Parts

@@ -1,10 +1,14 @@
 // The checks of a profile: refusals 3, 4 and 6, then 22, 21 and 23, a pass over the vertices each.
 ghost use mathlib.Core.Path.{_≡_};
 ghost use Prim.Native.Nat.{suc, _≤_};
-ghost use Rattle.refusals.specs.Outcomes.{passed, outcomeOf};
+ghost use lib.Dec.{leb};
+ghost use lib.IntN.{natAbs};
+ghost use lib.ListN.{length};
+ghost use Rattle.refusals.specs.Outcomes.{passed, outcomeOf, need};
 ghost use Rattle.refusals.specs.Order.{inTurn, outcome};
-ghost use Rattle.profile.specs.Checks.{curveFits, stationCheck, heightCheck, gradeCheck, lengthCheck, sightCheck, rangeChecks, profileChecks};
+ghost use Rattle.profile.specs.Checks.{curveFits, stationCheck, gradeCheck, lengthCheck, sightCheck, rangeChecks, profileChecks};
 ghost use Rattle.profile.specs.Checked.{ProfileInRange};
+ghost use Rattle.heights.specs.Parts.{withStations, withGrades, withCurves};
 use crate::stopping::sight_serves;
 use crate::stopping::stopping_distance;
 use line::check_speed;
@@ -15,17 +19,16 @@ use refusals::must;
 use signed::size;
 
 // Refusal 6: the start, and the station of each vertex.
-fn check_stations(profile: Profile) -> Verdict
-    requires { ⌜ profile .count ≤ 32 ⌝ }
-    ensures { λ r. ⌜ outcomeOf r ≡ outcome (inTurn (stationCheck profile) (suc (profile .count))) ⌝ }
+fn check_stations(start: u64, stations: &[u64], n: usize) -> Verdict
+    requires { ⌜ (n ≤ 32) × (length (now stations) ≡ 32) ⌝ }
+    ensures { λ r. ⌜ outcomeOf r ≡ outcome (inTurn (stationCheck (withStations start (now (stations .entry)))) (suc n)) ⌝ }
 {
-    if 200000000 < profile.start {
+    if 200000000 < start {
         return Verdict::Refused(Refusal::Start);
     }
-    let n = profile.count;
     let mut i = 0;
     while i < n {
-        if 200000000 < profile.stations[i] {
+        if 200000000 < stations[i] {
             return Verdict::Refused(Refusal::Start);
         }
         i += 1;
@@ -34,25 +37,24 @@ fn check_stations(profile: Profile) -> Verdict
 }
 
 // Refusal 6: the height of the start.
-fn check_height(profile: Profile) -> Verdict
-    ensures { λ r. ⌜ outcomeOf r ≡ outcome (heightCheck profile) ⌝ }
+fn check_height(height: i64) -> Verdict
+    ensures { λ r. ⌜ outcomeOf r ≡ need (leb (natAbs height) 10000000) 6 0 ⌝ }
 {
-    must(size(profile.height) <= 10000000, Refusal::Start)
+    must(size(height) <= 10000000, Refusal::Start)
 }
 
 // Refusal 22: the first grade, and the grade of each vertex.
-fn check_grades(profile: Profile) -> Verdict
-    requires { ⌜ profile .count ≤ 32 ⌝ }
-    ensures { λ r. ⌜ outcomeOf r ≡ outcome (inTurn (gradeCheck profile) (suc (profile .count))) ⌝ }
+fn check_grades(first: i64, grades: &[i64], n: usize) -> Verdict
+    requires { ⌜ (n ≤ 32) × (length (now grades) ≡ 32) ⌝ }
+    ensures { λ r. ⌜ outcomeOf r ≡ outcome (inTurn (gradeCheck (withGrades first (now (grades .entry)))) (suc n)) ⌝ }
 {
-    let first = size(profile.grade);
-    if 120000 < first {
+    let steep = size(first);
+    if 120000 < steep {
         return Verdict::Refused(Refusal::Grade(0));
     }
-    let n = profile.count;
     let mut i = 0;
     while i < n {
-        let grade = size(profile.grades[i]);
+        let grade = size(grades[i]);
         if 120000 < grade {
             return Verdict::Refused(Refusal::Grade((i + 1) as u16));
         }
@@ -79,16 +81,16 @@ fn curve_fits(end: u64, station: u64, length: u64) -> bool
 }
 
 // Refusal 21 of each curve.
-fn check_lengths(profile: Profile) -> Verdict
-    requires { ⌜ (profile .count ≤ 32) × (outcome (inTurn (stationCheck profile) (suc (profile .count))) ≡ passed) ⌝ }
-    ensures { λ r. ⌜ outcomeOf r ≡ outcome (inTurn (lengthCheck profile) (profile .count)) ⌝ }
+fn check_lengths(start: u64, stations: &[u64], lengths: &[u64], n: usize) -> Verdict
+    requires { ⌜ (n ≤ 32) × (length (now stations) ≡ 32) × (length (now lengths) ≡ 32) ⌝ }
+    requires { ⌜ outcome (inTurn (stationCheck (withStations start (now stations))) (suc n)) ≡ passed ⌝ }
+    ensures { λ r. ⌜ outcomeOf r ≡ outcome (inTurn (lengthCheck (withCurves start (now (stations .entry)) (now (lengths .entry)))) n) ⌝ }
 {
-    let n = profile.count;
-    let mut end = profile.start;
+    let mut end = start;
     let mut i = 0;
     while i < n {
-        let station = profile.stations[i];
-        let length = profile.lengths[i];
+        let station = stations[i];
+        let length = lengths[i];
         let fits = curve_fits(end, station, length);
         if !fits {
             return Verdict::Refused(Refusal::VerticalCurve((i + 1) as u16));
@@ -131,19 +133,20 @@ fn check_range(profile: Profile) -> Verdict
     let Verdict::Pass = speed else {
         return speed;
     };
-    let stations = check_stations(profile);
+    let stations = check_stations(profile.start, &profile.stations, profile.count);
     let Verdict::Pass = stations else {
         return stations;
     };
-    let height = check_height(profile);
+    let height = check_height(profile.height);
     let Verdict::Pass = height else {
         return height;
     };
-    let grades = check_grades(profile);
+    let grades = check_grades(profile.grade, &profile.grades, profile.count);
     let Verdict::Pass = grades else {
         return grades;
     };
-    check_lengths(profile)
+    let lengths = profile.lengths;
+    check_lengths(profile.start, &profile.stations, &lengths, profile.count)
 }
 
 // The first refusal of a profile.

@@ -1,13 +1,15 @@
 -- `check_range`: the verdicts one after the other are the definition's checks. Assumes nothing.
 use mathlib.Core.Path.{_≡_, sym, _∙_, ap}
-use Prim.Native.Nat.{ℕ, _≤_}
+use Prim.Native.Nat.{ℕ, suc, _≤_}
 use native.Mathlib.Omega.{arith}
 use borrow.Author.Needs.{needs}
 use borrow.Author.Tests.{le-leb, lt-leb}
 use lib.Dec.{leb}
 use Rattle.refusals.specs.Outcomes.{Outcome, outcomeOf, need, _▹_}
 use Rattle.refusals.proofs.Joining.{refused-first, passed-first}
-use Rattle.profile.specs.Checks.{rangeChecks}
+use Rattle.signed.proofs.Sizes.{kept}
+use Rattle.profile.specs.Checks.{heightCheck, rangeChecks}
+use Rattle.heights.proofs.Parts.{of-stations, of-grades, of-curves}
 use Rattle.heights.proofs.checks.check_range.Statement.{statement}
 use Rattle.heights.proofs.checks.check_range.Tie as tie
 
@@ -17,7 +19,7 @@ few n o h = rw (le-leb n 32 h)
 
 returns : tie.Need-returns
 unfolding rangeChecks
-returns c = rw (lt-leb (c .before .before .args .profile .count) 32 (omega arith))
+returns c = rw (lt-leb (c .before .args .t1 .count) 32 (omega arith))
 
 check-speed-requires : tie.Need-check-speed-requires
 check-speed-requires c κs = search needs
@@ -29,10 +31,11 @@ enum-told-2 : tie.Need-enum-told-2
 enum-told-2 c = search needs
 
 returns-2 : tie.Need-returns-2
-unfolding rangeChecks
+unfolding rangeChecks heightCheck
 returns-2 c =
+    let p = c .before .before .before .before .args .t1 in
     refused-first _ _ _ (c .enum-told2 .given .1) (c .before .before .check-speed .ensures)
-    ∙ few (c .before .before .before .before .before .args .profile .count) _ (omega arith)
+    ∙ few (p .count) _ (c .before .before .before .if1 .left)
 
 check-stations-requires : tie.Need-check-stations-requires
 check-stations-requires c κs = search needs
@@ -44,11 +47,12 @@ enum-told-4 : tie.Need-enum-told-4
 enum-told-4 c = search needs
 
 returns-3 : tie.Need-returns-3
-unfolding rangeChecks
+unfolding rangeChecks heightCheck
 returns-3 c =
-    refused-first _ _ _ (c .enum-told4 .given .1) (c .before .before .check-stations .ensures)
-    ∙ passed-first _ _ _ (c .before .before .before .enum-told .given .1) (c .before .before .before .before .before .check-speed .ensures)
-    ∙ few (c .before .before .before .before .before .before .before .before .args .profile .count) _ (omega arith)
+    let p = c .before .before .before .before .before .before .before .before .before .before .args .t1 in
+    refused-first _ _ _ (c .enum-told4 .given .1) (c .before .before .check-stations .ensures ∙ of-stations p (suc (p .count)))
+    ∙ passed-first _ _ _ (c .before .before .before .before .before .before .enum-told .given .1) (c .before .before .before .before .before .before .before .before .check-speed .ensures)
+    ∙ few (p .count) _ (c .before .before .before .before .before .before .before .before .before .if1 .left)
 
 check-height-requires : tie.Need-check-height-requires
 check-height-requires c κs = search needs
@@ -60,12 +64,13 @@ enum-told-6 : tie.Need-enum-told-6
 enum-told-6 c = search needs
 
 returns-4 : tie.Need-returns-4
-unfolding rangeChecks
+unfolding rangeChecks heightCheck
 returns-4 c =
-    refused-first _ _ _ (c .enum-told6 .given .1) (c .before .before .check-height .ensures)
-    ∙ passed-first _ _ _ (c .before .before .before .enum-told3 .given .1) (c .before .before .before .before .before .check-stations .ensures)
-    ∙ passed-first _ _ _ (c .before .before .before .before .before .before .enum-told .given .1) (c .before .before .before .before .before .before .before .before .check-speed .ensures)
-    ∙ few (c .before .before .before .before .before .before .before .before .before .before .before .args .profile .count) _ (omega arith)
+    let p = c .before .before .before .before .before .before .before .before .before .before .before .before .before .before .args .t1 in
+    refused-first _ _ _ (c .enum-told6 .given .1) (rw (kept (c .before .before .before .struct-told .given .1 .1 .0 .1)) at (c .before .before .check-height .ensures))
+    ∙ passed-first _ _ _ (c .before .before .before .before .enum-told3 .given .1) (c .before .before .before .before .before .before .check-stations .ensures ∙ of-stations p (suc (p .count)))
+    ∙ passed-first _ _ _ (c .before .before .before .before .before .before .before .before .before .before .enum-told .given .1) (c .before .before .before .before .before .before .before .before .before .before .before .before .check-speed .ensures)
+    ∙ few (p .count) _ (c .before .before .before .before .before .before .before .before .before .before .before .before .before .if1 .left)
 
 check-grades-requires : tie.Need-check-grades-requires
 check-grades-requires c κs = search needs
@@ -77,27 +82,34 @@ enum-told-8 : tie.Need-enum-told-8
 enum-told-8 c = search needs
 
 returns-5 : tie.Need-returns-5
-unfolding rangeChecks
+unfolding rangeChecks heightCheck
 returns-5 c =
-    refused-first _ _ _ (c .enum-told8 .given .1) (c .before .before .check-grades .ensures)
-    ∙ passed-first _ _ _ (c .before .before .before .enum-told5 .given .1) (c .before .before .before .before .before .check-height .ensures)
-    ∙ passed-first _ _ _ (c .before .before .before .before .before .before .enum-told3 .given .1) (c .before .before .before .before .before .before .before .before .check-stations .ensures)
-    ∙ passed-first _ _ _ (c .before .before .before .before .before .before .before .before .before .enum-told .given .1) (c .before .before .before .before .before .before .before .before .before .before .before .check-speed .ensures)
-    ∙ few (c .before .before .before .before .before .before .before .before .before .before .before .before .before .before .args .profile .count) _ (omega arith)
+    let p = c .before .before .before .before .before .before .before .before .before .before .before .before .before .before .before .before .before .before .before .before .before .args .t1 in
+    refused-first _ _ _ (c .enum-told8 .given .1) ((rw (kept (c .before .before .before .before .before .before .struct-told2 .given .1 .1 .1 .0 .1)) at (c .before .before .check-grades .ensures)) ∙ of-grades p (suc (p .count)))
+    ∙ passed-first _ _ _ (c .before .before .before .before .before .before .before .enum-told5 .given .1) (rw (kept (c .before .before .before .before .before .before .before .before .before .before .struct-told .given .1 .1 .0 .1)) at (c .before .before .before .before .before .before .before .before .before .check-height .ensures))
+    ∙ passed-first _ _ _ (c .before .before .before .before .before .before .before .before .before .before .before .enum-told3 .given .1) (c .before .before .before .before .before .before .before .before .before .before .before .before .before .check-stations .ensures ∙ of-stations p (suc (p .count)))
+    ∙ passed-first _ _ _ (c .before .before .before .before .before .before .before .before .before .before .before .before .before .before .before .before .before .enum-told .given .1) (c .before .before .before .before .before .before .before .before .before .before .before .before .before .before .before .before .before .before .before .check-speed .ensures)
+    ∙ few (p .count) _ (c .before .before .before .before .before .before .before .before .before .before .before .before .before .before .before .before .before .before .before .before .if1 .left)
+
+slice-aggregate-check-lengths : tie.Need-slice-aggregate-check-lengths
+slice-aggregate-check-lengths c = search needs
 
 check-lengths-requires : tie.Need-check-lengths-requires
-check-lengths-requires c κs =
-    (omega arith, sym (c .before .before .before .before .before .before .before .before .check-stations .ensures) ∙ ap outcomeOf (c .before .before .before .before .before .before .enum-told3 .given .1))
+check-lengths-requires c κs = (
+  (c .before .before .before .before .before .before .before .before .before .before .before .before .before .before .before .before .before .before .before .before .before .before .before .before .before .if1 .left, search needs, search needs),
+  sym (c .before .before .before .before .before .before .before .before .before .before .before .before .before .before .before .before .before .before .check-stations .ensures) ∙ ap outcomeOf (c .before .before .before .before .before .before .before .before .before .before .before .before .before .before .before .before .enum-told3 .given .1),
+)
 
 returns-6 : tie.Need-returns-6
-unfolding rangeChecks
+unfolding rangeChecks heightCheck
 returns-6 c =
-    c .check-lengths .ensures
-    ∙ passed-first _ _ _ (c .before .enum-told7 .given .1) (c .before .before .before .check-grades .ensures)
-    ∙ passed-first _ _ _ (c .before .before .before .before .enum-told5 .given .1) (c .before .before .before .before .before .before .check-height .ensures)
-    ∙ passed-first _ _ _ (c .before .before .before .before .before .before .before .enum-told3 .given .1) (c .before .before .before .before .before .before .before .before .before .check-stations .ensures)
-    ∙ passed-first _ _ _ (c .before .before .before .before .before .before .before .before .before .before .enum-told .given .1) (c .before .before .before .before .before .before .before .before .before .before .before .before .check-speed .ensures)
-    ∙ few (c .before .before .before .before .before .before .before .before .before .before .before .before .before .before .before .args .profile .count) _ (omega arith)
+    let p = c .before .before .before .before .before .before .before .before .before .before .before .before .before .before .before .before .before .before .before .before .before .before .before .before .before .before .before .args .t1 in
+    c .check-lengths .ensures ∙ of-curves p (p .count)
+    ∙ passed-first _ _ _ (c .before .before .before .before .before .before .enum-told7 .given .1) ((rw (kept (c .before .before .before .before .before .before .before .before .before .before .before .before .struct-told2 .given .1 .1 .1 .0 .1)) at (c .before .before .before .before .before .before .before .before .check-grades .ensures)) ∙ of-grades p (suc (p .count)))
+    ∙ passed-first _ _ _ (c .before .before .before .before .before .before .before .before .before .before .before .before .before .enum-told5 .given .1) (rw (kept (c .before .before .before .before .before .before .before .before .before .before .before .before .before .before .before .before .struct-told .given .1 .1 .0 .1)) at (c .before .before .before .before .before .before .before .before .before .before .before .before .before .before .before .check-height .ensures))
+    ∙ passed-first _ _ _ (c .before .before .before .before .before .before .before .before .before .before .before .before .before .before .before .before .before .enum-told3 .given .1) (c .before .before .before .before .before .before .before .before .before .before .before .before .before .before .before .before .before .before .before .check-stations .ensures ∙ of-stations p (suc (p .count)))
+    ∙ passed-first _ _ _ (c .before .before .before .before .before .before .before .before .before .before .before .before .before .before .before .before .before .before .before .before .before .before .before .enum-told .given .1) (c .before .before .before .before .before .before .before .before .before .before .before .before .before .before .before .before .before .before .before .before .before .before .before .before .before .check-speed .ensures)
+    ∙ few (p .count) _ (c .before .before .before .before .before .before .before .before .before .before .before .before .before .before .before .before .before .before .before .before .before .before .before .before .before .before .if1 .left)
 
 pub check-range-spec : {M : Type 1} → statement M
 check-range-spec =
@@ -120,5 +132,6 @@ check-range-spec =
     enum-told-7
     enum-told-8
     returns-5
+    slice-aggregate-check-lengths
     check-lengths-requires
     returns-6)
