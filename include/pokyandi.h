@@ -1,5 +1,6 @@
-/* Pokyandi: the stations of a road alignment from its packed sheet (document 01), the element under a station, its line in numbers, a line
- * from the coordinates of its points, the elements of one curve, the height of a profile at a station.
+/* Pokyandi: the stations of a road alignment from its packed sheet (document 01), the element under a station, its line in numbers, the
+ * sheet in its other edition (document 02), a line from the coordinates of its points, the elements of one curve, the height of a profile
+ * at a station.
  *
  * Link target/staticlib/libpokyandi.a, which `rt staticlib pokyandi` makes for Linux on x86-64. There is no state; any number of
  * threads may call at once. A call allocates nothing and takes at most POKYANDI_STACK_BYTES of stack.
@@ -10,7 +11,7 @@
  *
  * An answer holds two numbers of 32 bits:
  *   upper 0            done, the lower is the count of entries
- *   upper 1 to 23      refused, the upper is the refusal's number, the lower its place: the index of a distance (0 to n) for 8
+ *   upper 1 to 24      refused, the upper is the refusal's number, the lower its place: the index of a distance (0 to n) for 8
  *                      and 15, the number of a curve (1 to n) for 9 to 14, 19 and 20, of a vertex (1 to n) for 21 to 23 (0 for the
  *                      first grade), else 0; of several refusals the first in order
  */
@@ -24,8 +25,8 @@
 extern "C" {
 #endif
 
-/* The version of this header, 0.6.0: major x 1,000,000 + minor x 1,000 + patch. A later library may have more refusals. */
-#define POKYANDI_VERSION 6000
+/* The version of this header, 0.7.0: major x 1,000,000 + minor x 1,000 + patch. A later library may have more refusals. */
+#define POKYANDI_VERSION 7000
 
 /* The version of the library that is linked. */
 uint64_t pokyandi_version(void);
@@ -38,7 +39,7 @@ enum pokyandi_reason {
     POKYANDI_START = 6, POKYANDI_TRAILING = 7, POKYANDI_DISTANCE = 8, POKYANDI_DEFLECTION = 9, POKYANDI_RADIUS = 10, POKYANDI_SPIRAL = 11,
     POKYANDI_LEAST_RADIUS = 12, POKYANDI_LEAST_SPIRAL = 13, POKYANDI_SHORT_ARC = 14, POKYANDI_SHORT_STRAIGHT = 15, POKYANDI_SMALL_BUFFER = 16,
     POKYANDI_STATION = 17, POKYANDI_COORDINATE = 18, POKYANDI_NO_TURN = 19, POKYANDI_WIDE_TURN = 20,
-    POKYANDI_VERTICAL_CURVE = 21, POKYANDI_GRADE = 22, POKYANDI_SIGHT = 23
+    POKYANDI_VERTICAL_CURVE = 21, POKYANDI_GRADE = 22, POKYANDI_SIGHT = 23, POKYANDI_FAR_START = 24
 };
 
 static inline uint32_t pokyandi_refusal(uint64_t answer) { return (uint32_t)(answer >> 32); }
@@ -50,13 +51,15 @@ static inline const char *pokyandi_words(uint32_t refusal) {
     switch (refusal) {
     case POKYANDI_DONE: return "not refused";
     case POKYANDI_TRUNCATED: return "under 7 bytes, or fewer than n curves need";
-    case POKYANDI_EDITION: return "edition other than 1";
+    case POKYANDI_EDITION: return "edition other than 1 and 2, or, to convert, not the other one";
     case POKYANDI_CURVE_COUNT:
         return "over 64 curves or 32 vertices, fewer than 2 or over 66 points, or other than "
                "5 + 5 x n numbers of a line, 2 of each point and PI, 4 + 3 x n of a profile";
     case POKYANDI_SPEED: return "design speed other than 40, 50, .. 120 km/h";
     case POKYANDI_CROSSFALL: return "crossfall outside 2 to 12 percent";
-    case POKYANDI_START: return "start or vertex outside 0 to 200,000,000 mm, or start height beyond 10,000,000 mm either way";
+    case POKYANDI_START:
+        return "start over 200,000,000 mm in edition 1 or 4,000,000,000 mm in edition 2, "
+               "profile's start or vertex over 200,000,000 mm, or start height beyond 10,000,000 mm either way";
     case POKYANDI_TRAILING: return "more bytes than n curves need, or a fill bit set";
     case POKYANDI_DISTANCE: return "distance outside 1 to 20,000,000 mm";
     case POKYANDI_DEFLECTION: return "deflection outside 1 to 432,000 seconds, or side other than 0 and 1";
@@ -75,6 +78,7 @@ static inline const char *pokyandi_words(uint32_t refusal) {
         return "vertical curve of odd length, outside 2 to 2,000,000 mm, or reaching past the curve before it or the start";
     case POKYANDI_GRADE: return "grade beyond 120,000 millionths (12 percent) either way";
     case POKYANDI_SIGHT: return "vertical curve shorter than the stopping distance needs";
+    case POKYANDI_FAR_START: return "start over 200,000,000 mm, the greatest of edition 1";
     default: return "unknown refusal";
     }
 }
@@ -127,20 +131,31 @@ static inline size_t pokyandi_curve(size_t i) { return 5 * i; }
 /* Where distance i stands, 0 to n. */
 static inline size_t pokyandi_distance(size_t i) { return 5 * i + 4; }
 
+/* The editions of the packed sheet, 1 and 2, differ in the start alone: it has 28 bits and may reach 200,000,000 mm in edition 1, 32 bits
+ * and 4,000,000,000 mm in edition 2. Every call takes sheets of either; refusal 6 of a sheet follows its edition. */
+
+/* The edition of a sheet. Count: 1 or 2, the edition itself. Refusals: 1 to 11. */
+uint64_t pokyandi_edition(const uint8_t *sheet, size_t sheet_bytes);
+
 /* The line of a sheet. Count: 5 + 5 x n. Refusals: 1 to 11, then 16. */
 uint64_t pokyandi_read(const uint8_t *sheet, size_t sheet_bytes, uint32_t *line, size_t line_numbers);
 
-/* The sheet of a line. Count: its bytes. Refusals: 3 to 6, 8 to 11, then 16. The line has 5 + 5 x n numbers, neither fewer nor more, else
- * it is refused 3; a side other than 0 and 1 is refused as a deflection out of range is, 9 at its curve in its turn. */
-uint64_t pokyandi_write(const uint32_t *line, size_t line_numbers, uint8_t *bytes, size_t bytes_room);
+/* The sheet of a line in an edition. Count: its bytes. Refusals: 2 for any edition but 1 and 2; 3 to 6, 6 by the edition; 8 to 11; then 16.
+ * The line has 5 + 5 x n numbers, neither fewer nor more, else it is refused 3; a side other than 0 and 1 is refused as a deflection out of
+ * range is, 9 at its curve in its turn. */
+uint64_t pokyandi_write(uint32_t edition, const uint32_t *line, size_t line_numbers, uint8_t *bytes, size_t bytes_room);
 
-/* The sheet read and written again, which are the same bytes. Count: its bytes. Refusals: 1 to 11, then 16. */
+/* The sheet read and written again in its edition, which are the same bytes. Count: its bytes. Refusals: 1 to 11, then 16. */
 uint64_t pokyandi_rewrite(const uint8_t *sheet, size_t sheet_bytes, uint8_t *bytes, size_t bytes_room);
+
+/* The sheet of the same line in the other edition; there and back are the same bytes. Count: its bytes. Refusals: 1 to 11; 2 where the
+ * edition asked for is not the other one; 24 for edition 1 where the start is over 200,000,000 mm; then 16. */
+uint64_t pokyandi_convert(const uint8_t *sheet, size_t sheet_bytes, uint32_t edition, uint8_t *bytes, size_t bytes_room);
 
 /* The line through points: east and north of the start, of each PI and of the end in turn; radius and spiral of each PI in turn; all in mm.
  * Speed, crossfall and start are those of a line. Distances are rounded down to the mm, deflections to the second. Count: 5 + 5 x n.
  * Refusals: 3 for an odd count of point numbers or other than two curve numbers for each PI; 3 for fewer than 2 or more than 66 points; 18;
- * 8 of each distance; point by point 20 and 19; 4 to 6, 10 to 15 of the line so made; then 16. */
+ * 8 of each distance; point by point 20 and 19; 4 to 6, 6 for a start over 4,000,000,000, 10 to 15 of the line so made; then 16. */
 uint64_t pokyandi_from_points(uint32_t speed, uint32_t crossfall, uint32_t start, const int64_t *points, size_t point_numbers,
                               const uint32_t *curves, size_t curve_numbers, uint32_t *line, size_t line_numbers);
 

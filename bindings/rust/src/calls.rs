@@ -1,9 +1,9 @@
 //! The calls of `include/pokyandi.h`.
 
-use crate::refusal::{counted, Refusal};
+use crate::refusal::{answered, counted, Refusal};
 
-/// The version of this crate, 0.6.0: major × 1,000,000 + minor × 1,000 + patch.
-pub const VERSION: u64 = 6_000;
+/// The version of this crate, 0.7.0: major × 1,000,000 + minor × 1,000 + patch.
+pub const VERSION: u64 = 7_000;
 
 /// Bytes of stack that are enough for every call, with what the dynamic linker
 /// takes when a call first uses memcpy.
@@ -56,6 +56,7 @@ extern "C" {
         numbers: *mut u64,
         numbers_room: usize,
     ) -> u64;
+    fn pokyandi_edition(sheet: *const u8, sheet_bytes: usize) -> u64;
     fn pokyandi_read(
         sheet: *const u8,
         sheet_bytes: usize,
@@ -63,6 +64,7 @@ extern "C" {
         line_numbers: usize,
     ) -> u64;
     fn pokyandi_write(
+        edition: u32,
         line: *const u32,
         line_numbers: usize,
         bytes: *mut u8,
@@ -71,6 +73,13 @@ extern "C" {
     fn pokyandi_rewrite(
         sheet: *const u8,
         sheet_bytes: usize,
+        bytes: *mut u8,
+        bytes_room: usize,
+    ) -> u64;
+    fn pokyandi_convert(
+        sheet: *const u8,
+        sheet_bytes: usize,
+        edition: u32,
         bytes: *mut u8,
         bytes_room: usize,
     ) -> u64;
@@ -159,6 +168,16 @@ pub fn elements(
     })
 }
 
+/// The edition of a sheet, 1 or 2. Refusals: 1 to 11.
+///
+/// The editions differ in the start alone: it has 28 bits and may reach
+/// 200,000,000 mm in edition 1, 32 bits and 4,000,000,000 mm in edition 2. Every
+/// call takes sheets of either; refusal 6 of a sheet follows its edition.
+pub fn edition(sheet: &[u8]) -> Result<u32, Refusal> {
+    // SAFETY: pointer and length are those of a slice.
+    answered(unsafe { pokyandi_edition(sheet.as_ptr(), sheet.len()) })
+}
+
 /// The line of a sheet, by the indexes of [`crate::line`] and [`crate::curve`]:
 /// 5 + 5 × n numbers. Refusals: 1 to 11, then 16.
 pub fn read(sheet: &[u8], line: &mut [u32]) -> Result<usize, Refusal> {
@@ -166,20 +185,45 @@ pub fn read(sheet: &[u8], line: &mut [u32]) -> Result<usize, Refusal> {
     counted(unsafe { pokyandi_read(sheet.as_ptr(), sheet.len(), line.as_mut_ptr(), line.len()) })
 }
 
-/// The sheet of a line: its bytes. Refusals: 3 to 6, 8 to 11, then 16. The line
-/// has 5 + 5 × n numbers, neither fewer nor more, else it is refused 3; a side
-/// other than 0 and 1 is refused 9 at its curve.
-pub fn write(line: &[u32], bytes: &mut [u8]) -> Result<usize, Refusal> {
+/// The sheet of a line in an edition: its bytes. Refusals: 2 for any edition but 1
+/// and 2; 3 to 6, 6 by the edition; 8 to 11; then 16. The line has 5 + 5 × n
+/// numbers, neither fewer nor more, else it is refused 3; a side other than 0 and 1
+/// is refused 9 at its curve.
+pub fn write(edition: u32, line: &[u32], bytes: &mut [u8]) -> Result<usize, Refusal> {
     // SAFETY: pointers and lengths are those of slices; the bytes are borrowed alone.
-    counted(unsafe { pokyandi_write(line.as_ptr(), line.len(), bytes.as_mut_ptr(), bytes.len()) })
+    counted(unsafe {
+        pokyandi_write(
+            edition,
+            line.as_ptr(),
+            line.len(),
+            bytes.as_mut_ptr(),
+            bytes.len(),
+        )
+    })
 }
 
-/// The sheet read and written again, which are the same bytes. Refusals: 1 to
-/// 11, then 16.
+/// The sheet read and written again in its edition, which are the same bytes.
+/// Refusals: 1 to 11, then 16.
 pub fn rewrite(sheet: &[u8], bytes: &mut [u8]) -> Result<usize, Refusal> {
     // SAFETY: pointers and lengths are those of slices; the bytes are borrowed alone.
     counted(unsafe {
         pokyandi_rewrite(sheet.as_ptr(), sheet.len(), bytes.as_mut_ptr(), bytes.len())
+    })
+}
+
+/// The sheet of the same line in the other edition: its bytes; there and back are
+/// the same. Refusals: 1 to 11; 2 where the edition asked for is not the other one;
+/// 24 for edition 1 where the start is over 200,000,000 mm; then 16.
+pub fn convert(sheet: &[u8], edition: u32, bytes: &mut [u8]) -> Result<usize, Refusal> {
+    // SAFETY: pointers and lengths are those of slices; the bytes are borrowed alone.
+    counted(unsafe {
+        pokyandi_convert(
+            sheet.as_ptr(),
+            sheet.len(),
+            edition,
+            bytes.as_mut_ptr(),
+            bytes.len(),
+        )
     })
 }
 
@@ -189,8 +233,8 @@ pub fn rewrite(sheet: &[u8], bytes: &mut [u8]) -> Result<usize, Refusal> {
 /// turn, all in mm. A distance is rounded down to the mm, a deflection to the
 /// second. Refusals: 3 for an odd count of point numbers or other than two curve
 /// numbers for each PI; 3 for fewer than 2 or more than 66 points; 18; 8 of each
-/// distance; point by point 20 and 19; 4 to 6, 10 to 15 of the line so made; then
-/// 16.
+/// distance; point by point 20 and 19; 4 to 6, 6 for a start over 4,000,000,000, 10
+/// to 15 of the line so made; then 16.
 pub fn from_points(
     speed: u32,
     crossfall: u32,

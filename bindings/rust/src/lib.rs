@@ -22,6 +22,12 @@
 //! let count = pokyandi::read(&sheet, &mut line).unwrap();
 //! assert_eq!(line[..count], [0, 70, 8, 0, 500_000]);
 //!
+//! // The same line in edition 2, whose start may reach 4,000,000 m.
+//! let mut second = [0; pokyandi::SHEET_BYTES];
+//! let bytes = pokyandi::convert(&sheet, 2, &mut second).unwrap();
+//! assert_eq!(second[..bytes], [0x20, 0x11, 0xA0, 0x00, 0x00, 0x00, 0x00, 0x0F, 0x42, 0x40]);
+//! assert_eq!(pokyandi::edition(&second[..bytes]), Ok(2));
+//!
 //! // The same line by the points of its start and its end.
 //! let points = [0, 0, 300_000, 400_000];
 //! let count = pokyandi::from_points(70, 8, 0, &points, &[], &mut line).unwrap();
@@ -35,7 +41,7 @@
 //! assert_eq!(height, [105_500]);
 //!
 //! line[pokyandi::line::distance(0)] = 0;
-//! let refusal = pokyandi::write(&line[..count], &mut [0; 10]).unwrap_err();
+//! let refusal = pokyandi::write(1, &line[..count], &mut [0; 10]).unwrap_err();
 //! let words = "refused 8 at place 0: distance outside 1 to 20,000,000 mm";
 //! assert_eq!(refusal.to_string(), words);
 //! ```
@@ -44,7 +50,7 @@ mod calls;
 mod names;
 mod refusal;
 
-pub use calls::{check, elements, from_points, height, peg, read};
+pub use calls::{check, convert, edition, elements, from_points, height, peg, read};
 pub use calls::{rewrite, stations, text, version, write};
 pub use calls::{CURVE_NUMBERS, ELEMENT_NUMBERS, HEIGHT_NUMBERS, LINE_NUMBERS, PEG_NUMBERS};
 pub use calls::{POINT_NUMBERS, PROFILE_NUMBERS, ROW_NUMBERS};

@@ -42,6 +42,7 @@ pub enum Reason {
     VerticalCurve,
     Grade,
     Sight,
+    FarStart,
     /// A number that this crate does not know.
     Unknown(u32),
 }
@@ -72,6 +73,7 @@ impl Reason {
         Reason::VerticalCurve,
         Reason::Grade,
         Reason::Sight,
+        Reason::FarStart,
     ];
 
     /// The reason with this number; 0 is none.
@@ -83,7 +85,7 @@ impl Reason {
         }
     }
 
-    /// The number in those documents, 1 to 23, or the unknown one.
+    /// The number in those documents, 1 to 24, or the unknown one.
     pub fn number(self) -> u32 {
         match self {
             Reason::Truncated => 1,
@@ -109,6 +111,7 @@ impl Reason {
             Reason::VerticalCurve => 21,
             Reason::Grade => 22,
             Reason::Sight => 23,
+            Reason::FarStart => 24,
             Reason::Unknown(number) => number,
         }
     }
@@ -117,7 +120,7 @@ impl Reason {
     pub fn words(self) -> &'static str {
         match self {
             Reason::Truncated => "under 7 bytes, or fewer than n curves need",
-            Reason::Edition => "edition other than 1",
+            Reason::Edition => "edition other than 1 and 2, or, to convert, not the other one",
             Reason::CurveCount => {
                 "over 64 curves or 32 vertices, fewer than 2 or over 66 points, or other than \
                  5 + 5 x n numbers of a line, 2 of each point and PI, 4 + 3 x n of a profile"
@@ -125,7 +128,8 @@ impl Reason {
             Reason::Speed => "design speed other than 40, 50, .. 120 km/h",
             Reason::Crossfall => "crossfall outside 2 to 12 percent",
             Reason::Start => {
-                "start or vertex outside 0 to 200,000,000 mm, \
+                "start over 200,000,000 mm in edition 1 or 4,000,000,000 mm in edition 2, \
+                 profile's start or vertex over 200,000,000 mm, \
                  or start height beyond 10,000,000 mm either way"
             }
             Reason::Trailing => "more bytes than n curves need, or a fill bit set",
@@ -153,6 +157,7 @@ impl Reason {
             }
             Reason::Grade => "grade beyond 120,000 millionths (12 percent) either way",
             Reason::Sight => "vertical curve shorter than the stopping distance needs",
+            Reason::FarStart => "start over 200,000,000 mm, the greatest of edition 1",
             Reason::Unknown(_) => "unknown refusal",
         }
     }
@@ -172,13 +177,18 @@ impl fmt::Display for Refusal {
 
 impl Error for Refusal {}
 
-/// What an answer of the library says: its upper 32 bits are 0 and the lower
-/// ones a count, or they are a refusal's number and its place.
+/// What an answer of the library says that is a count of entries.
 pub(crate) fn counted(answer: u64) -> Result<usize, Refusal> {
+    answered(answer).map(|count| count as usize)
+}
+
+/// What an answer of the library says: its upper 32 bits are 0 and the lower
+/// ones a number, or they are a refusal's number and its place.
+pub(crate) fn answered(answer: u64) -> Result<u32, Refusal> {
     let upper = (answer >> 32) as u32;
     let lower = answer as u32;
     match Reason::of(upper) {
-        None => Ok(lower as usize),
+        None => Ok(lower),
         Some(reason) => Err(Refusal {
             reason,
             place: lower,
@@ -210,7 +220,7 @@ mod tests {
 
     #[test]
     fn an_unknown_refusal_keeps_its_number() {
-        for number in [24, 25, u32::MAX] {
+        for number in [25, 26, u32::MAX] {
             let refusal = counted(u64::from(number) << 32 | 5).unwrap_err();
             assert_eq!(refusal.reason, Reason::Unknown(number));
             let words = format!("refused {number} at place 5: unknown refusal");
