@@ -1,5 +1,5 @@
-/* Prints the line of a packed sheet, makes its last distance 100 m longer, writes the sheet of that line and prints its stations; then
- * calls that are refused.
+/* Prints the line of a packed sheet, makes its last distance 100 m longer, writes the sheet of that line in the same edition and prints its
+ * stations; then calls that are refused.
  *
  *     line [FILE]     without FILE the sheet is read from standard input
  *
@@ -35,9 +35,9 @@ static void print_line(const uint32_t *line) {
 }
 
 /* Writes the line's sheet and prints its stations. Returns whether one of the two is refused. */
-static int print_written(const uint32_t *line, size_t count) {
+static int print_written(uint32_t edition, const uint32_t *line, size_t count) {
     uint8_t sheet[POKYANDI_SHEET_BYTES];
-    uint64_t answer = pokyandi_write(line, count, sheet, POKYANDI_SHEET_BYTES);
+    uint64_t answer = pokyandi_write(edition, line, count, sheet, POKYANDI_SHEET_BYTES);
     if (pokyandi_refusal(answer) != POKYANDI_DONE) {
         print_refusal(answer);
         return 1;
@@ -46,19 +46,22 @@ static int print_written(const uint32_t *line, size_t count) {
     return print_stations(sheet, pokyandi_count(answer));
 }
 
-/* What is answered to a line cut short by a number, to no line, to a room of 9 bytes, which is too small for every sheet, and to side 2. */
-static void print_refused(uint32_t *line, size_t count) {
+/* What is answered to edition 3, to a line cut short by a number, to no line, to a room of 9 bytes, which is too small for every sheet, and
+ * to side 2. */
+static void print_refused(uint32_t edition, uint32_t *line, size_t count) {
     uint8_t sheet[POKYANDI_SHEET_BYTES];
+    printf("edition 3: ");
+    print_refusal(pokyandi_write(3, line, count, sheet, POKYANDI_SHEET_BYTES));
     printf("one number less: ");
-    print_refusal(pokyandi_write(line, count - 1, sheet, POKYANDI_SHEET_BYTES));
+    print_refusal(pokyandi_write(edition, line, count - 1, sheet, POKYANDI_SHEET_BYTES));
     printf("no number: ");
-    print_refusal(pokyandi_write(line, 0, sheet, POKYANDI_SHEET_BYTES));
+    print_refusal(pokyandi_write(edition, line, 0, sheet, POKYANDI_SHEET_BYTES));
     printf("9 bytes: ");
-    print_refusal(pokyandi_write(line, count, sheet, 9));
+    print_refusal(pokyandi_write(edition, line, count, sheet, 9));
     if (line[POKYANDI_LINE_CURVES] > 0) {
         line[pokyandi_curve(1) + POKYANDI_CURVE_SIDE] = 2;
         printf("side 2: ");
-        print_refusal(pokyandi_write(line, count, sheet, POKYANDI_SHEET_BYTES));
+        print_refusal(pokyandi_write(edition, line, count, sheet, POKYANDI_SHEET_BYTES));
     }
 }
 
@@ -79,7 +82,8 @@ int main(int argc, char **argv) {
 
     line[pokyandi_distance(line[POKYANDI_LINE_CURVES])] += LONGER;
     printf("the last distance 100 m longer: ");
-    int refused = print_written(line, pokyandi_count(answer));
-    print_refused(line, pokyandi_count(answer));
+    uint32_t edition = pokyandi_count(pokyandi_edition(sheet, (size_t)size));
+    int refused = print_written(edition, line, pokyandi_count(answer));
+    print_refused(edition, line, pokyandi_count(answer));
     return refused;
 }

@@ -91,6 +91,7 @@ static void show_refusals(void) {
     SHOW(VERTICAL_CURVE);
     SHOW(GRADE);
     SHOW(SIGHT);
+    SHOW(FAR_START);
     for (uint32_t number = 0; number <= 25; number++) {
         printf("%" PRIu32 ": %s\n", number, pokyandi_words(number));
     }

@@ -2,8 +2,8 @@
  * curves or its points, or with a profile of 32 vertices, into no room and into enough. No call is made before, so that what the dynamic linker takes when memcpy is first
  * used counts too.
  *
- *     stack CALL FILE..     CALL is stations, check, text, peg, elements, read, write, rewrite,
- *                          from_points, height or version
+ *     stack CALL FILE..     CALL is stations, check, text, peg, elements, edition, read, write, rewrite,
+ *                           convert, from_points, height or version
  *
  * Prints the most bytes. Exit status: 0 they are at most POKYANDI_STACK_BYTES, 1 they are more, 2 a call or file is none.
  */
@@ -41,9 +41,12 @@ static int64_t profile[POKYANDI_PROFILE_NUMBERS];
 static int64_t height[POKYANDI_HEIGHT_NUMBERS];
 static uint8_t bytes[POKYANDI_TEXT_BYTES];
 
-enum { STATIONS, CHECK, TEXT, PEG, ELEMENTS, READ, WRITE, REWRITE, FROM_POINTS, HEIGHT, VERSION, CALLS };
-static const char *const NAMES[CALLS] = {"stations", "check",   "text",        "peg",    "elements", "read",
-                                         "write",    "rewrite", "from_points", "height", "version"};
+enum { STATIONS, CHECK, TEXT, PEG, ELEMENTS, EDITION, READ, WRITE, REWRITE, CONVERT, FROM_POINTS, HEIGHT, VERSION, CALLS };
+static const char *const NAMES[CALLS] = {"stations", "check",   "text",    "peg",         "elements", "edition", "read",
+                                         "write",    "rewrite", "convert", "from_points", "height",   "version"};
+
+/* The edition that the sheet does not have; it is the first four bits. */
+static uint32_t other_edition(void) { return sheet_bytes > 0 && sheet[0] >> 4 == 2 ? 1 : 2; }
 
 static uint64_t make_call(void) {
     switch (call) {
@@ -52,9 +55,11 @@ static uint64_t make_call(void) {
     case TEXT: return pokyandi_text(sheet, sheet_bytes, bytes, roomy ? POKYANDI_TEXT_BYTES : 0);
     case PEG: return pokyandi_peg(sheet, sheet_bytes, STATION, peg, roomy ? POKYANDI_PEG_NUMBERS : 0);
     case ELEMENTS: return pokyandi_elements(177764, 350000, 40000, row, roomy ? POKYANDI_ELEMENT_NUMBERS : 0);
+    case EDITION: return pokyandi_edition(sheet, sheet_bytes);
     case READ: return pokyandi_read(sheet, sheet_bytes, line, roomy ? POKYANDI_LINE_NUMBERS : 0);
-    case WRITE: return pokyandi_write(line, POKYANDI_LINE_NUMBERS, bytes, roomy ? POKYANDI_SHEET_BYTES : 0);
+    case WRITE: return pokyandi_write(2, line, POKYANDI_LINE_NUMBERS, bytes, roomy ? POKYANDI_SHEET_BYTES : 0);
     case REWRITE: return pokyandi_rewrite(sheet, sheet_bytes, bytes, roomy ? POKYANDI_SHEET_BYTES : 0);
+    case CONVERT: return pokyandi_convert(sheet, sheet_bytes, other_edition(), bytes, roomy ? POKYANDI_SHEET_BYTES : 0);
     case FROM_POINTS:
         return pokyandi_from_points(40, 8, 0, points, POKYANDI_POINT_NUMBERS, curves, POKYANDI_CURVE_NUMBERS, line,
                                     roomy ? POKYANDI_LINE_NUMBERS : 0);

@@ -1,6 +1,6 @@
 //! Prints the line of a packed sheet, makes its last distance 100 m longer,
-//! writes the sheet of that line and prints its stations; then calls that are
-//! refused.
+//! writes the sheet of that line in the same edition and prints its stations; then
+//! calls that are refused.
 //!
 //!     line [FILE]     without FILE the sheet is read from standard input
 //!
@@ -23,14 +23,15 @@ fn main() -> ExitCode {
 fn show_line(sheet: &[u8]) -> Result<(), Refusal> {
     let mut numbers = [0; LINE_NUMBERS];
     let count = told(pokyandi::read(sheet, &mut numbers))?;
+    let edition = told(pokyandi::edition(sheet))?;
     let numbers = &mut numbers[..count];
     print_line(numbers);
 
     let n = numbers[line::CURVES] as usize;
     numbers[line::distance(n)] += LONGER;
     print!("the last distance 100 m longer: ");
-    let printed = print_written(numbers);
-    print_refused(numbers);
+    let printed = print_written(edition, numbers);
+    print_refused(edition, numbers);
     printed
 }
 
@@ -60,31 +61,29 @@ fn print_curve(i: usize, numbers: &[u32]) {
 }
 
 /// Writes the line's sheet and prints its stations.
-fn print_written(numbers: &[u32]) -> Result<(), Refusal> {
+fn print_written(edition: u32, numbers: &[u32]) -> Result<(), Refusal> {
     let mut sheet = [0; SHEET_BYTES];
-    let count = told(pokyandi::write(numbers, &mut sheet))?;
+    let count = told(pokyandi::write(edition, numbers, &mut sheet))?;
     println!("a sheet of {count} bytes:");
     print_stations(&sheet[..count])
 }
 
-/// What is answered to a line cut short by a number, to no line, to a room of 9
-/// bytes, which is too small for every sheet, and to side 2.
-fn print_refused(numbers: &mut [u32]) {
+/// What is answered to edition 3, to a line cut short by a number, to no line, to a
+/// room of 9 bytes, which is too small for every sheet, and to side 2.
+fn print_refused(edition: u32, numbers: &mut [u32]) {
     let mut sheet = [0; SHEET_BYTES];
-    let mut show = |what: &str, numbers: &[u32], room: usize| {
-        if let Err(refusal) = pokyandi::write(numbers, &mut sheet[..room]) {
+    let mut show = |what: &str, edition: u32, numbers: &[u32], room: usize| {
+        if let Err(refusal) = pokyandi::write(edition, numbers, &mut sheet[..room]) {
             println!("{what}: {refusal}");
         }
     };
-    show(
-        "one number less",
-        &numbers[..numbers.len() - 1],
-        SHEET_BYTES,
-    );
-    show("no number", &[], SHEET_BYTES);
-    show("9 bytes", numbers, 9);
+    show("edition 3", 3, numbers, SHEET_BYTES);
+    let shorter = &numbers[..numbers.len() - 1];
+    show("one number less", edition, shorter, SHEET_BYTES);
+    show("no number", edition, &[], SHEET_BYTES);
+    show("9 bytes", edition, numbers, 9);
     if numbers[line::CURVES] > 0 {
         numbers[line::curve(1) + curve::SIDE] = 2;
-        show("side 2", numbers, SHEET_BYTES);
+        show("side 2", edition, numbers, SHEET_BYTES);
     }
 }
