@@ -4,6 +4,7 @@ use crate::commands::profile::Wanted;
 use crate::commands::sheets::Sheets;
 use crate::commands::stations::Form;
 use crate::commands::stops::Every;
+use crate::edition;
 use crate::help;
 use crate::quantity::length_in_metres;
 use std::borrow::Cow;
@@ -33,7 +34,12 @@ pub enum Request {
     Check {
         sheets: Sheets,
     },
+    Convert {
+        to: u32,
+        sheets: Sheets,
+    },
     Make {
+        edition: Option<u32>,
         text: OsString,
         sheet: OsString,
     },
@@ -49,6 +55,7 @@ enum Subcommand {
     Profile,
     Elements,
     Check,
+    Convert,
     Make,
     Show,
 }
@@ -61,6 +68,7 @@ impl Subcommand {
             "profile" => Ok(Subcommand::Profile),
             "elements" => Ok(Subcommand::Elements),
             "check" => Ok(Subcommand::Check),
+            "convert" => Ok(Subcommand::Convert),
             "make" => Ok(Subcommand::Make),
             "show" => Ok(Subcommand::Show),
             _ => Err(format!("{name} is no subcommand\n{}", help::USAGE)),
@@ -74,6 +82,7 @@ impl Subcommand {
             Subcommand::Profile => help::PROFILE,
             Subcommand::Elements => help::ELEMENTS,
             Subcommand::Check => help::CHECK,
+            Subcommand::Convert => help::CONVERT,
             Subcommand::Make => help::MAKE,
             Subcommand::Show => help::SHOW,
         }
@@ -86,7 +95,8 @@ impl Subcommand {
             | Subcommand::Pegs
             | Subcommand::Profile
             | Subcommand::Elements
-            | Subcommand::Check => true,
+            | Subcommand::Check
+            | Subcommand::Convert => true,
             Subcommand::Make | Subcommand::Show => false,
         }
     }
@@ -128,6 +138,7 @@ struct Words {
     every: Option<Every>,
     from: Option<u64>,
     to: Option<u64>,
+    edition: Option<u32>,
     list: Option<OsString>,
     wants_help: bool,
 }
@@ -155,6 +166,12 @@ impl Words {
                 }
                 "--to" if subcommand == Subcommand::Profile => {
                     once(&option, &mut read.to, station(&option, &value()?)?)?;
+                }
+                "--to" if subcommand == Subcommand::Convert => {
+                    once(&option, &mut read.edition, edition(&option, &value()?)?)?;
+                }
+                "--edition" if subcommand == Subcommand::Make => {
+                    once(&option, &mut read.edition, edition(&option, &value()?)?)?;
                 }
                 "--list" if subcommand.takes_list() => once(&option, &mut read.list, value()?)?,
                 "--help" | "-h" if joined.is_none() => read.wants_help = true,
@@ -198,9 +215,19 @@ impl Words {
             Subcommand::Check => Ok(Request::Check {
                 sheets: self.sheets_or(None)?,
             }),
+            Subcommand::Convert => {
+                let to = self.edition.ok_or("--to is missing, the edition")?;
+                let sheets = self.sheets_or(None)?;
+                Ok(Request::Convert { to, sheets })
+            }
             Subcommand::Make => {
+                let edition = self.edition;
                 let [text, sheet] = self.names("a text and a sheet are wanted")?;
-                Ok(Request::Make { text, sheet })
+                Ok(Request::Make {
+                    edition,
+                    text,
+                    sheet,
+                })
             }
             Subcommand::Show => {
                 let [sheet] = self.names("one sheet is wanted")?;
@@ -253,6 +280,12 @@ fn form(name: &OsStr) -> Result<Form, String> {
 
 fn every(word: &OsStr) -> Result<Every, String> {
     Every::read(&word.to_string_lossy()).map_err(|words| format!("--every {words}"))
+}
+
+fn edition(option: &str, word: &OsStr) -> Result<u32, String> {
+    let word = word.to_string_lossy();
+    let edition = word.parse().ok().and_then(edition::numbered);
+    edition.ok_or_else(|| format!("{option} takes {}, not {word}", edition::names()))
 }
 
 /// A station of mm, in metres where it names no unit.

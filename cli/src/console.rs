@@ -49,6 +49,12 @@ impl Console {
         }
     }
 
+    /// Says that hardly any results go to standard output, so that they do not hide
+    /// the progress line where both are one terminal.
+    pub fn expect_no_results(&mut self) {
+        self.shows_progress = io::stderr().is_terminal();
+    }
+
     /// Puts out results.
     pub fn print(&mut self, text: &[u8]) -> io::Result<()> {
         if OUTPUT_UNUSABLE.load(Ordering::Relaxed) {

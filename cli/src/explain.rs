@@ -2,6 +2,7 @@
 //! formula behind it.
 
 use crate::bits::fields_of;
+use crate::edition::{self, USUAL, WIDEST};
 use crate::field::Field;
 use crate::limits;
 use crate::line::{Curve, Line};
@@ -16,19 +17,29 @@ pub fn of_sheet(sheet: &[u8], refusal: Refusal) -> String {
     match refusal.reason {
         Reason::Truncated | Reason::Trailing => headed(refusal, bytes(sheet, &line)),
         Reason::Edition => headed(refusal, other_edition(sheet, edition)),
-        _ => of_line(&line, refusal),
+        _ => of_line(&line, edition as u32, refusal),
     }
 }
 
-/// Why a line is refused, in one sentence.
-pub fn of_line(line: &Line, refusal: Refusal) -> String {
+/// Why a number is refused as an edition, in one sentence.
+pub fn of_edition(number: u64) -> String {
+    let refusal = Refusal {
+        reason: Reason::Edition,
+        place: 0,
+    };
+    headed(refusal, edition::missed(number))
+}
+
+/// Why a line is refused in an edition, in one sentence.
+pub fn of_line(line: &Line, edition: u32, refusal: Refusal) -> String {
     let place = refusal.place as usize;
     let curve = || line.curve(place);
     let found = match refusal.reason {
         Reason::CurveCount => too_many(line.curve_count()),
         Reason::Speed => Field::Speed.missed(line.speed()),
         Reason::Crossfall => Field::Crossfall.missed(line.crossfall()),
-        Reason::Start => Field::Start.missed(line.start()),
+        Reason::Start => start_missed(line.start(), edition),
+        Reason::FarStart => far_start(line.start()),
         Reason::Distance => Field::Distance.missed(line.distance(place)),
         Reason::Deflection => Field::Deflection.missed(curve().deflection),
         Reason::Radius => Field::Radius.missed(curve().radius),
@@ -42,8 +53,8 @@ pub fn of_line(line: &Line, refusal: Refusal) -> String {
     headed(refusal, found)
 }
 
-/// Why a line by its points is refused, in one sentence.
-pub fn of_points(survey: &Survey, refusal: Refusal) -> String {
+/// Why a line by its points is refused in an edition, in one sentence.
+pub fn of_points(survey: &Survey, edition: u32, refusal: Refusal) -> String {
     let place = refusal.place as usize;
     let found = match refusal.reason {
         Reason::CurveCount => too_many(survey.curves.len()),
@@ -51,7 +62,7 @@ pub fn of_points(survey: &Survey, refusal: Refusal) -> String {
         Reason::Distance => far_or_same(survey.sketch().distance(place)),
         Reason::NoTurn => NO_TURN.into(),
         Reason::WideTurn => wide_turn(survey.sketch().curve(place)),
-        _ => return of_line(&survey.sketch(), refusal),
+        _ => return of_line(&survey.sketch(), edition, refusal),
     };
     headed(refusal, found)
 }
@@ -89,7 +100,6 @@ fn bytes(sheet: &[u8], line: &Line) -> String {
 }
 
 fn other_edition(sheet: &[u8], edition: u64) -> String {
-    let editions: Vec<String> = limits::editions().iter().map(u8::to_string).collect();
     let is_text = sheet
         .iter()
         .all(|byte| *byte >= b' ' || byte.is_ascii_whitespace());
@@ -97,10 +107,28 @@ fn other_edition(sheet: &[u8], edition: u64) -> String {
         true => "; it looks like a text, whose sheet pokyandi make makes",
         false => "",
     };
-    format!(
-        "the edition is {edition}; it may be {}{hint}",
-        editions.join(" or ")
-    )
+    edition::missed(edition) + hint
+}
+
+/// A start that is out of range in its edition, and the edition that has room for it.
+fn start_missed(start: u64, edition: u32) -> String {
+    let wide = Field::Start(WIDEST);
+    let (_, most) = limits::start_range(WIDEST);
+    let hint = match edition != WIDEST && start <= most {
+        true => {
+            let most = wide.written(most);
+            format!("; make the sheet in edition {WIDEST}, which goes up to {most}")
+        }
+        false => String::new(),
+    };
+    let missed = Field::Start(edition).missed(start);
+    format!("{missed} in edition {edition}{hint}")
+}
+
+/// A start that keeps a sheet from the usual edition.
+fn far_start(start: u64) -> String {
+    let missed = Field::Start(USUAL).missed(start);
+    format!("{missed} in edition {USUAL}; the sheet stays in edition {WIDEST}")
 }
 
 /// `1 curve`, `2 curves`
@@ -266,7 +294,7 @@ mod tests {
     use pokyandi::line::{CROSSFALL, SPEED};
 
     fn sentence(line: &Line) -> String {
-        of_line(line, line.check().unwrap_err())
+        of_line(line, WIDEST, line.check().unwrap_err())
     }
 
     #[test]
@@ -327,7 +355,7 @@ mod tests {
         let refusal = pokyandi::check(text).unwrap_err();
         assert_eq!(
             of_sheet(text, refusal),
-            "refused 2: the edition is 7; it may be 1; it looks like a text, whose sheet pokyandi make makes"
+            "refused 2: the edition is 7; it may be 1 or 2; it looks like a text, whose sheet pokyandi make makes"
         );
     }
 }

@@ -2,13 +2,14 @@
 
 use crate::limits;
 use crate::quantity::{angle, degrees, kilometres, length, metres_of_mm, number, Quantity};
-use pokyandi::line::{distance, CROSSFALL, START};
+use pokyandi::line::{distance, CROSSFALL};
 
 #[derive(Clone, Copy, Debug, PartialEq, Eq)]
 pub enum Field {
     Speed,
     Crossfall,
-    Start,
+    /// The start in this edition.
+    Start(u32),
     Distance,
     Deflection,
     Radius,
@@ -20,7 +21,7 @@ impl Field {
         match self {
             Field::Speed => "speed",
             Field::Crossfall => "crossfall",
-            Field::Start => "start",
+            Field::Start(_) => "start",
             Field::Distance => "distance",
             Field::Deflection => "deflection",
             Field::Radius => "radius",
@@ -34,7 +35,7 @@ impl Field {
             Field::Speed => number(word, "km/h"),
             Field::Crossfall => number(word, "%"),
             Field::Deflection => angle(word),
-            Field::Start | Field::Distance | Field::Radius | Field::Spiral => length(word),
+            Field::Start(_) | Field::Distance | Field::Radius | Field::Spiral => length(word),
         };
         value.map_err(|fault| format!("{}: {fault}; it may be {}", self.name(), self.range()))
     }
@@ -44,7 +45,7 @@ impl Field {
         match self {
             Field::Speed => format!("{value} km/h"),
             Field::Crossfall => format!("{value} %"),
-            Field::Start => format!("{} km", kilometres(value, 3)),
+            Field::Start(_) => format!("{} km", kilometres(value, 3)),
             Field::Deflection => degrees(value),
             Field::Distance | Field::Radius | Field::Spiral => metres_of_mm(value),
         }
@@ -55,7 +56,7 @@ impl Field {
         let (low, high) = match self {
             Field::Speed => return speeds(),
             Field::Crossfall => limits::range(CROSSFALL),
-            Field::Start => limits::range(START),
+            Field::Start(edition) => limits::start_range(edition),
             Field::Distance => limits::range(distance(0)),
             Field::Deflection => limits::range(limits::DEFLECTION),
             Field::Radius => limits::radius_range(),

@@ -2,6 +2,7 @@
 //! one. The name `-` stands for standard input or output.
 
 use crate::console::input;
+use crate::signals::held_back;
 use std::ffi::OsStr;
 use std::fmt;
 use std::fs::{self, File, Metadata, OpenOptions, Permissions};
@@ -107,6 +108,15 @@ fn is_open(file: &Metadata) -> bool {
     open.any(|open| is_same(&open, file))
 }
 
+/// Puts the bytes into a file that is there, as `replace` does. What is no file, but a
+/// device or a pipe, has no bytes of its own to be replaced.
+pub fn rewrite(name: &OsStr, bytes: &[u8]) -> io::Result<()> {
+    match fs::metadata(name)?.is_file() {
+        true => replace(name, bytes),
+        false => Err(io::Error::other("only a file can be rewritten in place")),
+    }
+}
+
 /// Puts the bytes into a file: written beside it, read back, compared and renamed,
 /// so that a failure keeps the old file. A device or pipe is written to itself.
 pub fn replace(name: &OsStr, bytes: &[u8]) -> io::Result<()> {
@@ -115,8 +125,13 @@ pub fn replace(name: &OsStr, bytes: &[u8]) -> io::Result<()> {
         Ok(old) if !old.is_file() => OpenOptions::new().write(true).open(name)?.write_all(bytes),
         Ok(old) if old.permissions().readonly() => Err(io::ErrorKind::PermissionDenied.into()),
         Ok(old) if is_open(&old) => Err(io::Error::other("the file is in use, as text or output")),
-        Ok(old) => replace_file(&fs::canonicalize(name)?, Some(old.permissions()), bytes),
-        Err(_) if fs::symlink_metadata(name).is_err() => replace_file(name.as_ref(), None, bytes),
+        Ok(old) => {
+            let path = fs::canonicalize(name)?;
+            held_back(|| replace_file(&path, Some(old.permissions()), bytes))
+        }
+        Err(_) if fs::symlink_metadata(name).is_err() => {
+            held_back(|| replace_file(name.as_ref(), None, bytes))
+        }
         // A link that leads nowhere.
         Err(error) => Err(error),
     }

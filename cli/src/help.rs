@@ -10,7 +10,8 @@ usage: pokyandi stations [--as metres|km|estaca|csv] [SHEET..]
                         [--as metres|km|estaca|csv] [TEXT..]
        pokyandi elements SHEET..
        pokyandi check SHEET..
-       pokyandi make TEXT SHEET
+       pokyandi convert --to 1|2 SHEET..
+       pokyandi make [--edition 1|2] TEXT SHEET
        pokyandi show SHEET
        pokyandi SUBCOMMAND --help
        pokyandi --help | --version
@@ -32,6 +33,7 @@ pegs       a list for the crew: the element under every 20 m and every point
 profile    the heights of a profile, from a plain text with grades and vertices
 elements   X, Y, k, p, D and TT of every curve, and the straights
 check      a line for each sheet: fine, or why it is refused, with the limit missed
+convert    sheets in the other edition, many in one run; edition 2 goes past 200 km
 make       the sheet of a plain text, with distances and deflections or with points
 show       the text of a sheet
 
@@ -227,8 +229,41 @@ formula behind it.
     samples/stations/case-05-refused.sheet: refused 12 at curve 1: the radius is 167.750 m; the least is 167.751 m, by V² / (127 (e + f)) at V = 70 km/h, e = 8 % and f = 0.15
 ";
 
+pub const CONVERT: &str = "\
+usage: pokyandi convert --to 1|2 SHEET..
+       pokyandi convert --to 1|2 --list FILE
+
+Rewrites each sheet in its other edition, with the same line. Edition 1 holds a start
+up to 200 km, edition 2 up to 4000 km; every sheet of edition 1 is converted, and back
+every sheet that starts at 200 km or before.
+
+  --to 1|2      the edition that the sheets shall have
+  --list FILE   the sheets are those that FILE names, a line each
+
+It says which sheets it leaves alone, and why: one that has the edition already, which
+is no error, and one that is refused. Of several sheets the last line counts them, and
+one that is refused or cannot be read or written does not stop the others. The name -
+converts standard input to standard output.
+
+A sheet is converted, read again and converted back before its file is replaced; the
+new one is written beside the old one, read back and renamed. A run that is interrupted
+leaves every sheet whole, in one edition or the other: start it again.
+
+    $ pokyandi make samples/line.txt /tmp/line.sheet
+    /tmp/line.sheet: written, 21 bytes, 1 curve
+    $ pokyandi convert --to 2 /tmp/line.sheet
+    /tmp/line.sheet: converted to edition 2, 21 bytes
+    $ pokyandi show /tmp/line.sheet | head -n 1
+    edition 2
+    $ pokyandi make --edition 2 samples/line.txt /tmp/other.sheet
+    /tmp/other.sheet: written in edition 2, 21 bytes, 1 curve
+    $ pokyandi convert --to 1 /tmp/line.sheet /tmp/other.sheet /tmp/line.sheet
+    /tmp/line.sheet: left alone: it has edition 1 already
+    3 sheets: 2 converted to edition 1, 1 had it already, 0 refused, 0 failed
+";
+
 pub const MAKE: &str = "\
-usage: pokyandi make TEXT SHEET
+usage: pokyandi make [--edition 1|2] TEXT SHEET
 
 Makes the packed sheet of a plain text, one item on each line, in this order:
 
@@ -238,6 +273,10 @@ Makes the packed sheet of a plain text, one item on each line, in this order:
     distance 500m
     curve right 49d22m44s 350m 40m
     distance 400m
+
+  --edition 1|2   the edition of the sheet; without it the text may name the edition
+                  by an item before the curves, edition 2, and else it is 1. Edition 1
+                  holds a start up to 200 km, edition 2 up to 4000 km.
 
 A curve has side (right or left), deflection, radius and spiral length, 0 for none;
 before it stands the distance to its PI from the start or the PI before, and behind
@@ -293,6 +332,7 @@ usage: pokyandi show SHEET
 Prints the text of a sheet, which pokyandi make takes back to the same bytes.
 
     $ pokyandi show samples/stations/case-01.sheet
+    edition 1
     speed 70km/h
     crossfall 8%
     start 0+000.000km

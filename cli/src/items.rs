@@ -69,21 +69,27 @@ impl<'a> Items<'a> {
     /// Takes the next item, which has the form of this example: the word that it
     /// begins with, and as many values.
     pub fn take(&mut self, example: &str) -> Result<Item<'a>, Remark> {
-        let wanted: Vec<&str> = example.split(' ').collect();
-        let item = match self.rest.next() {
-            Some(item) if item.is(wanted[0]) => item,
-            other => return self.wanted(wanted[0], other.as_ref(), example),
-        };
-        if item.words.len() != wanted.len() {
-            let [read, wanted_count] = [item.words.len() - 1, wanted.len() - 1];
-            let words = format!(
-                "{} has {}, not {wanted_count}; a value has no spaces, as in: {example}",
-                wanted[0],
-                counted(read, "value")
-            );
-            return remark(item.line, words);
+        let name = name_in(example);
+        match self.rest.next() {
+            Some(item) if item.is(name) => item.like(example),
+            other => self.wanted(name, other.as_ref(), example),
         }
-        Ok(item)
+    }
+
+    /// Takes the item of this example out of those before the first that ends them,
+    /// where it is there.
+    pub fn take_before(
+        &mut self,
+        example: &str,
+        ends: impl Fn(&Item) -> bool,
+    ) -> Result<Option<Item<'a>>, Remark> {
+        let mut items: Vec<Item> = self.rest.by_ref().collect();
+        let end = items.iter().position(ends).unwrap_or(items.len());
+        let is_it = |item: &Item| item.is(name_in(example));
+        let found = items[..end].iter().position(is_it);
+        let item = found.map(|index| items.remove(index));
+        self.rest = items.into_iter();
+        item.map(|item| item.like(example)).transpose()
     }
 
     /// That something is wanted where another item stands, or none.
@@ -99,7 +105,27 @@ impl<'a> Items<'a> {
     }
 }
 
-impl Item<'_> {
+/// The word that the items of an example begin with.
+fn name_in(example: &str) -> &str {
+    example.split(' ').next().unwrap_or(example)
+}
+
+impl<'a> Item<'a> {
+    /// The item, which must have as many values as this example.
+    fn like(self, example: &str) -> Result<Item<'a>, Remark> {
+        let [read, wanted] = [self.words.len(), example.split(' ').count()];
+        if read == wanted {
+            return Ok(self);
+        }
+        let words = format!(
+            "{} has {}, not {}; a value has no spaces, as in: {example}",
+            name_in(example),
+            counted(read - 1, "value"),
+            wanted - 1
+        );
+        remark(self.line, words)
+    }
+
     /// Whether it begins with this word.
     pub fn is(&self, word: &str) -> bool {
         self.words[0].eq_ignore_ascii_case(word)

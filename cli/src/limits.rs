@@ -1,10 +1,11 @@
 //! Limits, asked of the library itself: the least or greatest number that it
 //! does not refuse. No range, table or formula is written down here.
 
+use crate::edition::{USUAL, WIDEST};
 use crate::line::{example, Curve, Line};
 use crate::profile::{self, Profile, Vertex};
 use crate::survey::Survey;
-use pokyandi::line::{curve, CROSSFALL, CURVES, SPEED};
+use pokyandi::line::{curve, CROSSFALL, CURVES, SPEED, START};
 use pokyandi::{element, Reason, Refusal};
 use std::ops::RangeInclusive;
 
@@ -45,12 +46,17 @@ fn is_refused(answer: Result<impl Sized, Refusal>, reason: Reason) -> bool {
 
 /// The range of the number at an index of the example's line.
 pub fn range(index: usize) -> (u64, u64) {
-    range_in(&example(), index)
+    range_in(WIDEST, &example(), index)
 }
 
-/// The range of the number at an index of a line that can be written.
-fn range_in(line: &Line, index: usize) -> (u64, u64) {
-    let serves = |number| line.with(index, number).sheet().is_ok();
+/// The range of the start in an edition, mm.
+pub fn start_range(edition: u32) -> (u64, u64) {
+    range_in(edition, &example(), START)
+}
+
+/// The range of the number at an index of a line that can be written in an edition.
+fn range_in(edition: u32, line: &Line, index: usize) -> (u64, u64) {
+    let serves = |number| line.with(index, number).sheet(edition).is_ok();
     let now = line.numbers[index];
     let low = least(0..=now, serves).unwrap_or(now);
     (low, greatest(now..=MOST, serves).unwrap_or(now))
@@ -59,24 +65,18 @@ fn range_in(line: &Line, index: usize) -> (u64, u64) {
 /// The range of a radius, mm.
 pub fn radius_range() -> (u64, u64) {
     let simple = example().with(SPIRAL, 0);
-    range_in(&simple, RADIUS)
+    range_in(WIDEST, &simple, RADIUS)
 }
 
-/// The editions that are read.
-pub fn editions() -> Vec<u8> {
-    let is_read = |edition: &u8| {
-        let mut sheet = example().sheet().unwrap_or_default();
-        if let Some(first) = sheet.first_mut() {
-            *first = edition << 4 | *first & 15;
-        }
-        !is_refused(pokyandi::check(&sheet), Reason::Edition)
-    };
-    (0..16).filter(is_read).collect()
+/// The editions of sheets, of those that their four bits can name.
+pub fn editions() -> Vec<u32> {
+    let is_written = |edition: &u32| !is_refused(example().sheet(*edition), Reason::Edition);
+    (0..16).filter(is_written).collect()
 }
 
 /// The design speeds, km/h.
 pub fn speeds() -> Vec<u64> {
-    let serves = |speed: &u64| example().with(SPEED, *speed).sheet().is_ok();
+    let serves = |speed: &u64| example().with(SPEED, *speed).sheet(WIDEST).is_ok();
     (0..=u64::from(u8::MAX)).filter(serves).collect()
 }
 
@@ -91,13 +91,13 @@ fn example_of(n: u64) -> Line {
 
 /// The greatest number of curves.
 pub fn most_curves() -> u64 {
-    let most = greatest(0..=1_000, |n| example_of(n).sheet().is_ok());
+    let most = greatest(0..=1_000, |n| example_of(n).sheet(WIDEST).is_ok());
     most.expect("a line may be without curves")
 }
 
 /// The bytes of the shortest sheet.
 pub fn fewest_bytes() -> usize {
-    let sheet = example_of(0).sheet();
+    let sheet = example_of(0).sheet(USUAL);
     sheet.expect("the example is in range").len()
 }
 
@@ -154,7 +154,7 @@ pub fn least_radius_with_spiral(line: &Line) -> Option<u64> {
 /// The greatest length of a spiral at this radius, mm.
 pub fn greatest_spiral(radius: u64) -> u64 {
     let line = example().with(RADIUS, radius).with(SPIRAL, 0);
-    range_in(&line, SPIRAL).1
+    range_in(WIDEST, &line, SPIRAL).1
 }
 
 /// The least deflection that leaves an arc at the radius and spiral of a curve,
@@ -335,7 +335,7 @@ pub fn least_curve(speed: i64, vertex: Vertex) -> Option<i64> {
 #[cfg(test)]
 mod tests {
     use super::*;
-    use pokyandi::line::{distance, START};
+    use pokyandi::line::distance;
 
     #[test]
     fn the_ranges_of_profiles() {
@@ -377,12 +377,10 @@ mod tests {
     fn the_ranges_of_document_01() {
         assert_eq!(speeds(), [40, 50, 60, 70, 80, 90, 100, 110, 120]);
         assert_eq!(range(CROSSFALL), (2, 12));
-        assert_eq!(range(START), (0, 200_000_000));
         assert_eq!(range(distance(0)), (1, 20_000_000));
         assert_eq!(range(distance(1)), (1, 20_000_000));
         assert_eq!(range(DEFLECTION), (1, 432_000));
         assert_eq!(radius_range(), (20_000, 5_000_000));
-        assert_eq!(editions(), [1]);
         assert_eq!(greatest_spiral(350_000), 350_000);
         assert_eq!(greatest_spiral(5_000_000), 500_000);
         assert_eq!(most_curves(), 64);
@@ -433,11 +431,14 @@ mod tests {
 
     #[test]
     fn bytes_of_sheets() {
-        let sheet = example().sheet().unwrap();
-        for size in 7..21 {
-            assert_eq!(bytes_needed(&sheet[..size]), 21);
+        for edition in editions() {
+            let sheet = example().sheet(edition).unwrap();
+            for size in 7..21 {
+                assert_eq!(bytes_needed(&sheet[..size]), 21);
+            }
+            assert_eq!(bytes_needed(&[&sheet[..], &[0; 90]].concat()), 21);
+            assert_eq!(example_of(0).sheet(edition).unwrap().len(), fewest_bytes());
         }
-        assert_eq!(bytes_needed(&[&sheet[..], &[0; 90]].concat()), 21);
         assert_eq!(fewest_bytes(), 10);
     }
 }

@@ -1,5 +1,6 @@
 //! A line in numbers, as the library reads and writes it.
 
+use crate::edition::WIDEST;
 use pokyandi::line::{curve, distance, CROSSFALL, CURVES, SPEED, START};
 use pokyandi::{Refusal, ELEMENT_NUMBERS, LINE_NUMBERS, SHEET_BYTES};
 
@@ -34,17 +35,17 @@ impl Line {
         Line { numbers }
     }
 
-    /// The sheet of the line, or the first of refusals 3 to 6 and 8 to 11.
-    pub fn sheet(&self) -> Result<Vec<u8>, Refusal> {
+    /// The sheet of the line in an edition, or the first of refusals 2 to 6 and 8 to 11.
+    pub fn sheet(&self, edition: u32) -> Result<Vec<u8>, Refusal> {
         let mut sheet = [0; SHEET_BYTES];
         let numbers: Vec<u32> = self.numbers.iter().copied().map(library_number).collect();
-        let count = pokyandi::write(&numbers, &mut sheet)?;
+        let count = pokyandi::write(edition, &numbers, &mut sheet)?;
         Ok(sheet[..count].to_vec())
     }
 
     /// Whether the calculator accepts the line, else the first refusal.
     pub fn check(&self) -> Result<usize, Refusal> {
-        pokyandi::check(&self.sheet()?)
+        pokyandi::check(&self.sheet(WIDEST)?)
     }
 
     pub fn curve_count(&self) -> usize {

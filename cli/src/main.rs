@@ -8,6 +8,7 @@ mod bits;
 mod commands;
 mod console;
 mod decimal;
+mod edition;
 mod explain;
 mod field;
 mod files;
@@ -17,11 +18,12 @@ mod limits;
 mod line;
 mod profile;
 mod quantity;
+mod signals;
 mod survey;
 mod text;
 
 use arguments::Request;
-use commands::{check, elements, make, pegs, show, stations};
+use commands::{check, convert, elements, make, pegs, show, stations};
 use console::{Console, Status};
 use std::env;
 use std::io;
@@ -60,7 +62,12 @@ fn answer(request: Request, console: &mut Console) -> io::Result<Status> {
         Request::Profile { wanted, texts } => commands::profile::run(wanted, texts, console),
         Request::Elements { sheets } => elements::run(sheets, console),
         Request::Check { sheets } => check::run(sheets, console),
-        Request::Make { text, sheet } => make::run(&text, &sheet, console),
+        Request::Convert { to, sheets } => convert::run(to, sheets, console),
+        Request::Make {
+            edition,
+            text,
+            sheet,
+        } => make::run(edition, &text, &sheet, console),
         Request::Show { sheet } => show::run(&sheet, console),
     }
 }

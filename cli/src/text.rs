@@ -10,8 +10,9 @@
 //! distance 400000
 //! ```
 //!
-//! In place of distances and curves it may have points, each by its east and north,
-//! with radius and spiral at a PI.
+//! Before the curves may stand the edition of its sheet, `edition 2`. In place of
+//! distances and curves it may have points, each by its east and north, with radius
+//! and spiral at a PI.
 //!
 //! ```text
 //! point 0m 500.000m
@@ -19,17 +20,20 @@
 //! point -303607 -260425
 //! ```
 
+use crate::edition;
 use crate::explain;
 use crate::field::Field;
 use crate::files::visible;
 use crate::items::{remark, Item, Items, Place, Remark};
 use crate::limits;
 use crate::line::Line;
-use crate::quantity::{degrees, metres_of_mm, signed_length, Quantity};
+use crate::quantity::{degrees, metres_of_mm, number, signed_length, Quantity};
 use crate::survey::{self, Survey, AXES};
 use pokyandi::{Reason, Refusal};
 
-/// How a distance is written, for messages.
+/// How the edition is written, for messages.
+const EDITION: &str = "edition 2";
+/// How a distance is written.
 const DISTANCE: &str = "distance 310.5m";
 /// How the ends of a line and a PI are written as points.
 const END: &str = "point -120.5m 85m";
@@ -38,6 +42,8 @@ const PI: &str = "point 90.1m 259m 120m 40m";
 /// A line read from a text, with what its text says of it.
 #[derive(Debug, PartialEq, Eq)]
 pub struct Text {
+    /// The edition of its sheet.
+    pub edition: u32,
     content: Content,
     places: Places,
     /// Values that are probably in the wrong unit.
@@ -63,12 +69,15 @@ struct Places {
 }
 
 impl Text {
-    /// The line that a text describes, or what is wrong with the text first.
-    pub fn read(text: &[u8]) -> Result<Text, Remark> {
+    /// The line that a text describes, or what is wrong with the text first. The
+    /// edition that is asked for counts before the one that the text names.
+    pub fn read(text: &[u8], asked: Option<u32>) -> Result<Text, Remark> {
         let mut items = Items::of(text)?;
+        let named = items.take_edition()?;
+        let edition = asked.or(named).unwrap_or(edition::USUAL);
         let (speed, speed_place) = items.take_value(Field::Speed, "speed 70")?;
         let (crossfall, crossfall_place) = items.take_value(Field::Crossfall, "crossfall 8")?;
-        let (start, start_place) = items.take_value(Field::Start, "start 12+340.5km")?;
+        let (start, start_place) = items.take_value(Field::Start(edition), "start 12+340.5km")?;
         let head = [speed, crossfall, start];
         let (content, distances, curves) = match items.are_points()? {
             true => items.take_points(head)?,
@@ -82,6 +91,7 @@ impl Text {
             curves,
         };
         Ok(Text {
+            edition,
             content,
             places,
             warnings: items.doubts,
@@ -144,8 +154,8 @@ impl Text {
             _ => curves.get(place.wrapping_sub(1)).unwrap_or(speed),
         };
         let words = match &self.content {
-            Content::Line(line) => explain::of_line(line, refusal),
-            Content::Points(survey) => explain::of_points(survey, refusal),
+            Content::Line(line) => explain::of_line(line, self.edition, refusal),
+            Content::Points(survey) => explain::of_points(survey, self.edition, refusal),
         };
         let words = format!("{}: {words}", visible(written));
         Remark { line: *line, words }
@@ -156,7 +166,7 @@ impl Text {
 /// in metres or degrees.
 fn doubt(field: Field, Quantity { value, has_unit }: Quantity, line: usize) -> Option<Remark> {
     let (small, unit, letter) = match field {
-        Field::Start => (100_000, "metres", "m"),
+        Field::Start(_) => (100_000, "metres", "m"),
         Field::Distance | Field::Radius => (10_000, "metres", "m"),
         Field::Spiral => (1_000, "metres", "m"),
         Field::Deflection => (100, "degrees", "d"),
@@ -169,6 +179,20 @@ fn doubt(field: Field, Quantity { value, has_unit }: Quantity, line: usize) -> O
 }
 
 impl Items<'_> {
+    /// Takes the edition, which may stand anywhere before the curves or points.
+    fn take_edition(&mut self) -> Result<Option<u32>, Remark> {
+        let taken = self.take_before(EDITION, |item| item.is("curve") || item.is("point"))?;
+        let mut rest = self.rest.as_slice().iter();
+        if let Some(Item { line, .. }) = rest.find(|item| item.is("edition")) {
+            let words = match taken {
+                Some(_) => "the edition is named a second time",
+                None => "the edition stands above the curves or points",
+            };
+            return remark(*line, words.into());
+        }
+        taken.map(|item| item.edition()).transpose()
+    }
+
     /// Whether points are to be taken; a text has no distances or curves then.
     fn are_points(&self) -> Result<bool, Remark> {
         let items = self.rest.as_slice();
@@ -287,6 +311,25 @@ impl Items<'_> {
 }
 
 impl Item<'_> {
+    /// The edition that it names.
+    fn edition(&self) -> Result<u32, Remark> {
+        let word = self.words[1];
+        let words = match number(word, "").map(|number| number.value) {
+            Ok(number) => match edition::numbered(number) {
+                Some(edition) => return Ok(edition),
+                None => format!("edition {number}: {}", explain::of_edition(number)),
+            },
+            Err(_) => {
+                let word = visible(word);
+                format!(
+                    "edition: {word} is no number; it may be {}",
+                    edition::names()
+                )
+            }
+        };
+        remark(self.line, words)
+    }
+
     /// East and north of a point.
     fn coordinates(&self) -> Result<[i64; 2], Remark> {
         let mut coordinates = [0; 2];

@@ -1,6 +1,7 @@
 //! `pokyandi make`: the sheet of a plain text.
 
 use crate::console::{Console, Status};
+use crate::edition;
 use crate::explain::counted;
 use crate::files::{are_same, is_output, read_text, replace, Name};
 use crate::items::Remark;
@@ -9,7 +10,12 @@ use crate::text::Text;
 use std::ffi::OsStr;
 use std::io;
 
-pub fn run(text_name: &OsStr, sheet_name: &OsStr, console: &mut Console) -> io::Result<Status> {
+pub fn run(
+    edition: Option<u32>,
+    text_name: &OsStr,
+    sheet_name: &OsStr,
+    console: &mut Console,
+) -> io::Result<Status> {
     if are_same(text_name, sheet_name) {
         let name = Name(text_name);
         console.say(&format!(
@@ -24,7 +30,7 @@ pub fn run(text_name: &OsStr, sheet_name: &OsStr, console: &mut Console) -> io::
             return Ok(Status::Failed);
         }
     };
-    let (made, remarks) = make(&text);
+    let (made, remarks) = make(&text, edition);
     for Remark { line, words } in remarks {
         console.say(&format!("{}:{line}: {words}", Name(text_name)));
     }
@@ -43,13 +49,16 @@ struct Made {
 }
 
 /// The sheet of a text, where there is one, and what is to be said of the text.
-fn make(text: &[u8]) -> (Option<Made>, Vec<Remark>) {
-    let mut text = match Text::read(text) {
+fn make(text: &[u8], edition: Option<u32>) -> (Option<Made>, Vec<Remark>) {
+    let mut text = match Text::read(text, edition) {
         Ok(text) => text,
         Err(fault) => return (None, vec![fault]),
     };
     let mut remarks = std::mem::take(&mut text.warnings);
-    let made = text.line().and_then(|line| Ok((line.sheet()?, line)));
+    let edition = text.edition;
+    let made = text
+        .line()
+        .and_then(|line| Ok((line.sheet(edition)?, line)));
     let (sheet, line) = match made {
         Ok(made) => made,
         Err(refusal) => {
@@ -59,25 +68,31 @@ fn make(text: &[u8]) -> (Option<Made>, Vec<Remark>) {
     };
     remarks.extend(text.found(&line));
     // Reader and writer of the library undo each other; it is seen here once more.
-    if Line::of_sheet(&sheet).as_ref() != Ok(&line) {
+    let read_back = (pokyandi::edition(&sheet), Line::of_sheet(&sheet));
+    if read_back != (Ok(edition), Ok(line.clone())) {
         let words = "the sheet read back is another line: nothing is written".into();
         remarks.push(Remark { line: 1, words });
         return (None, remarks);
     }
     let refusal = pokyandi::check(&sheet).err();
     remarks.extend(refusal.map(|refusal| text.remark(refusal)));
-    (Some(Made::of(&line, sheet, refusal.is_some())), remarks)
+    let made = Made::of(edition, &line, sheet, refusal.is_some());
+    (Some(made), remarks)
 }
 
 impl Made {
-    fn of(line: &Line, sheet: Vec<u8>, is_refused: bool) -> Made {
+    fn of(edition: u32, line: &Line, sheet: Vec<u8>, is_refused: bool) -> Made {
         let size = counted(sheet.len(), "byte");
         let curves = counted(line.curve_count(), "curve");
         let (status, but) = match is_refused {
             true => (Status::Refused, "; its stations are refused"),
             false => (Status::Done, ""),
         };
-        let summary = format!("written, {size}, {curves}{but}");
+        let edition = match edition {
+            edition::USUAL => String::new(),
+            edition => format!(" in edition {edition}"),
+        };
+        let summary = format!("written{edition}, {size}, {curves}{but}");
         Made {
             sheet,
             summary,

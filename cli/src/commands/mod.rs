@@ -1,6 +1,7 @@
 //! The subcommands.
 
 pub mod check;
+pub mod convert;
 pub mod elements;
 pub mod make;
 pub mod pegs;

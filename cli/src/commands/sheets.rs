@@ -43,7 +43,7 @@ pub struct Sheet<'a> {
     pub bytes: Vec<u8>,
     kind: Kind,
     /// Whether others are in the same run, so that its results want its name.
-    among_others: bool,
+    pub among_others: bool,
 }
 
 /// Does something with each sheet. The error is that of standard output.
@@ -52,16 +52,25 @@ pub fn each(
     console: &mut Console,
     work: impl FnMut(&Sheet, &mut Console) -> io::Result<Status>,
 ) -> io::Result<Status> {
+    each_counted(sheets, console, work).map(|(status, _)| status)
+}
+
+/// The same, and how many sheets were named.
+pub fn each_counted(
+    sheets: Sheets,
+    console: &mut Console,
+    work: impl FnMut(&Sheet, &mut Console) -> io::Result<Status>,
+) -> io::Result<(Status, usize)> {
     each_of(SHEET, sheets, console, work)
 }
 
-/// The same with texts.
+/// Does something with each text.
 pub fn each_text(
     texts: Sheets,
     console: &mut Console,
     work: impl FnMut(&Sheet, &mut Console) -> io::Result<Status>,
 ) -> io::Result<Status> {
-    each_of(TEXT, texts, console, work)
+    each_of(TEXT, texts, console, work).map(|(status, _)| status)
 }
 
 fn each_of(
@@ -69,9 +78,9 @@ fn each_of(
     sheets: Sheets,
     console: &mut Console,
     mut work: impl FnMut(&Sheet, &mut Console) -> io::Result<Status>,
-) -> io::Result<Status> {
+) -> io::Result<(Status, usize)> {
     let Some(names) = names_of(&sheets, kind, console) else {
-        return Ok(Status::Failed);
+        return Ok((Status::Failed, 0));
     };
     let among_others = names.len() > 1 || matches!(sheets, Sheets::Listed(_));
     let mut worst = Status::Done;
@@ -91,7 +100,7 @@ fn each_of(
         worst = worst.max(status);
         console.progress(i + 1, names.len(), kind.plural);
     }
-    Ok(worst)
+    Ok((worst, names.len()))
 }
 
 /// The names of the sheets; none, with words, where they cannot be had.

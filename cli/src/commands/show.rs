@@ -5,6 +5,7 @@ use crate::console::{Console, Status};
 use crate::decimal::decimal;
 use crate::line::{Curve, Line};
 use crate::quantity::{degrees_in_letters, kilometres};
+use pokyandi::Refusal;
 use std::ffi::OsStr;
 use std::io;
 
@@ -12,17 +13,21 @@ pub fn run(name: &OsStr, console: &mut Console) -> io::Result<Status> {
     each(
         Sheets::Named(vec![name.into()]),
         console,
-        |sheet, console| match Line::of_sheet(&sheet.bytes) {
-            Ok(line) => console
-                .print(text_of(&line).as_bytes())
-                .map(|()| Status::Done),
+        |sheet, console| match text_of(&sheet.bytes) {
+            Ok(text) => console.print(text.as_bytes()).map(|()| Status::Done),
             Err(refusal) => sheet.refuse(refusal, console),
         },
     )
 }
 
-/// The text of a line.
-fn text_of(line: &Line) -> String {
+/// The text of a sheet.
+fn text_of(sheet: &[u8]) -> Result<String, Refusal> {
+    let edition = pokyandi::edition(sheet)?;
+    let line = Line::of_sheet(sheet)?;
+    Ok(format!("edition {edition}\n") + &text_of_line(&line))
+}
+
+fn text_of_line(line: &Line) -> String {
     let mut text = format!("speed {}km/h\n", line.speed());
     text += &format!("crossfall {}%\n", line.crossfall());
     text += &format!("start {}km\n", kilometres(line.start(), 3));
@@ -51,13 +56,16 @@ fn distance(line: &Line, i: usize) -> String {
 #[cfg(test)]
 mod tests {
     use super::*;
+    use crate::limits;
     use crate::line::example;
     use crate::text::Text;
 
     #[test]
-    fn the_text_of_a_line_is_that_line() {
-        let text = text_of(&example());
-        let text = Text::read(text.as_bytes()).unwrap();
-        assert_eq!(text.line(), Ok(example()));
+    fn the_text_of_a_sheet_is_its_line_and_edition() {
+        for edition in limits::editions() {
+            let text = text_of(&example().sheet(edition).unwrap()).unwrap();
+            let text = Text::read(text.as_bytes(), None).unwrap();
+            assert_eq!((text.edition, text.line()), (edition, Ok(example())));
+        }
     }
 }

@@ -33,12 +33,20 @@ impl Dice {
     }
 }
 
+/// An edition, and its greatest start, mm.
+fn random_edition(dice: &mut Dice) -> (u32, u32) {
+    match dice.between(1, 2) {
+        1 => (1, 200_000_000),
+        _ => (2, 4_000_000_000),
+    }
+}
+
 /// The numbers of a random line whose fields are in range.
-fn random_line(dice: &mut Dice) -> Vec<u32> {
+fn random_line(dice: &mut Dice, greatest_start: u32) -> Vec<u32> {
     let n = dice.between(0, 64);
     let speed = 10 * dice.between(4, 12);
     let crossfall = dice.between(2, 12);
-    let start = dice.between(0, 200_000_000);
+    let start = dice.between(0, greatest_start);
     let mut numbers = vec![n, speed, crossfall, start, dice.between(1, 20_000_000)];
     for _ in 0..n {
         let radius = dice.between(20_000, 5_000_000);
@@ -75,22 +83,25 @@ fn angle(dice: &mut Dice, seconds: u32) -> String {
     }
 }
 
-/// The text of a line, in random forms.
-fn text_of(dice: &mut Dice, line: &[u32]) -> String {
+/// The text of a line in an edition, in random forms. The edition stands somewhere
+/// before the curves; edition 1 need not be there.
+fn text_of(dice: &mut Dice, edition: u32, line: &[u32]) -> String {
     let end = dice.one_of(&["\n", "\r\n", "  # a comment\n", "\n\n"]);
     let space = dice.one_of(&[" ", "\t", "   "]);
     let mark = dice.one_of(&["", "\u{feff}"]);
     let speed = dice.one_of(&["", "km/h"]);
     let crossfall = dice.one_of(&["", "%"]);
-    let mut text = format!(
-        "{mark}speed {}{speed}{end}crossfall {}{crossfall}{end}",
-        line[1], line[2]
-    );
-    text += &format!(
-        "start {}{end}distance {}{end}",
-        length(dice, line[3]),
-        length(dice, line[4])
-    );
+    let mut head = vec![
+        format!("speed {}{speed}", line[1]),
+        format!("crossfall {}{crossfall}", line[2]),
+        format!("start {}", length(dice, line[3])),
+        format!("distance {}", length(dice, line[4])),
+    ];
+    if edition != 1 || dice.next() % 2 == 0 {
+        let place = dice.between(0, 4) as usize;
+        head.insert(place, format!("edition {edition}"));
+    }
+    let mut text = format!("{mark}{}{end}", head.join(end));
     for entry in line[5..].chunks(5) {
         let side = ["right", "left"][entry[0] as usize];
         let curve = [
@@ -117,10 +128,11 @@ fn done(arguments: &[&str], input: &[u8]) -> Vec<u8> {
 fn text_sheet_text_sheet() {
     let mut dice = Dice(SEED);
     for _ in 0..LINES {
-        let line = random_line(&mut dice);
-        let text = text_of(&mut dice, &line);
+        let (edition, greatest_start) = random_edition(&mut dice);
+        let line = random_line(&mut dice, greatest_start);
+        let text = text_of(&mut dice, edition, &line);
         let mut expected = [0; SHEET_BYTES];
-        let size = pokyandi::write(&line, &mut expected).unwrap();
+        let size = pokyandi::write(edition, &line, &mut expected).unwrap();
 
         let sheet = done(&["make", "-", "-"], text.as_bytes());
         assert_eq!(sheet, expected[..size], "{text}");
@@ -158,9 +170,10 @@ fn points_to_sheet() {
     let mut dice = Dice(SEED);
     for _ in 0..LINES {
         let points = random_points(&mut dice);
-        let start = dice.between(0, 200_000_000);
+        let (edition, greatest_start) = random_edition(&mut dice);
+        let start = dice.between(0, greatest_start);
         let mut text = format!(
-            "speed 40\ncrossfall 8\nstart {}\n",
+            "edition {edition}\nspeed 40\ncrossfall 8\nstart {}\n",
             length(&mut dice, start)
         );
         for (i, point) in points.iter().enumerate() {
@@ -177,7 +190,7 @@ fn points_to_sheet() {
         let mut line = [0; LINE_NUMBERS];
         let count = pokyandi::from_points(40, 8, start, &points.concat(), &curves, &mut line);
         let mut expected = [0; SHEET_BYTES];
-        let size = pokyandi::write(&line[..count.unwrap()], &mut expected).unwrap();
+        let size = pokyandi::write(edition, &line[..count.unwrap()], &mut expected).unwrap();
         let made = run_with_input(&["make", "-", "-"], text.as_bytes());
         assert_eq!(
             (made.out.as_slice(), made.status),
