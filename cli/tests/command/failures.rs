@@ -23,6 +23,7 @@ fn a_full_disk() {
         "pokyandi elements stations/case-01.sheet >/dev/full",
         "pokyandi check stations/case-01.sheet >/dev/full",
         "pokyandi show stations/case-01.sheet >/dev/full",
+        "pokyandi convert --to 2 - <stations/case-01.sheet >/dev/full",
         "pokyandi make line.txt - >/dev/full",
         "pokyandi make line.txt /dev/full",
         "pokyandi --help >/dev/full",
@@ -52,6 +53,14 @@ fn a_closed_output_or_input() {
     );
     check_failure(
         "pokyandi profile <&-",
+        "standard input: Bad file descriptor",
+    );
+    check_failure(
+        "pokyandi convert --to 2 - <stations/case-01.sheet >&-",
+        "standard output: Bad file descriptor",
+    );
+    check_failure(
+        "pokyandi convert --to 2 - <&-",
         "standard input: Bad file descriptor",
     );
     check_failure(

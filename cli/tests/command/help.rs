@@ -2,8 +2,8 @@
 
 use crate::run::{run, run_in_shell, top};
 
-const SUBCOMMANDS: [&str; 7] = [
-    "stations", "pegs", "profile", "elements", "check", "make", "show",
+const SUBCOMMANDS: [&str; 8] = [
+    "stations", "pegs", "profile", "elements", "check", "convert", "make", "show",
 ];
 
 /// The commands of a help text's examples, each with what it prints.
@@ -54,7 +54,7 @@ fn the_help_lists_the_subcommands() {
 
 #[test]
 fn wrong_usage_has_status_2_and_no_results() {
-    let lines: [&[&str]; 33] = [
+    let lines: [&[&str]; 42] = [
         &[],
         &["station"],
         &["--verbose"],
@@ -84,6 +84,15 @@ fn wrong_usage_has_status_2_and_no_results() {
         &["elements"],
         &["elements", "--as", "km", "a.sheet"],
         &["check"],
+        &["convert", "stations/case-01.sheet"],
+        &["convert", "--to", "2"],
+        &["convert", "--to"],
+        &["convert", "--to", "3", "stations/case-01.sheet"],
+        &["convert", "--to", "two", "stations/case-01.sheet"],
+        &["convert", "--to", "2", "--to", "2", "missing"],
+        &["convert", "--edition", "2", "missing"],
+        &["make", "--edition", "3", "line.txt", "-"],
+        &["make", "--to", "2", "line.txt", "-"],
         &["make"],
         &["make", "a.txt"],
         &["make", "a.txt", "b.sheet", "c.sheet"],

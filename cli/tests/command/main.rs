@@ -1,6 +1,8 @@
 //! The command as people run it: its output, its words, its exit status, and what
 //! it leaves in files.
 
+mod convert;
+mod editions;
 mod failures;
 mod faulty_texts;
 mod help;

@@ -16,6 +16,7 @@ point 528000 408900
 
 /// What its sheet shows.
 const SHOWN: &str = "\
+edition 1
 speed 40km/h
 crossfall 8%
 start 12+340.500km

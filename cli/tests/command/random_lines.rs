@@ -97,7 +97,7 @@ fn text_of(dice: &mut Dice, edition: u32, line: &[u32]) -> String {
         format!("start {}", length(dice, line[3])),
         format!("distance {}", length(dice, line[4])),
     ];
-    if edition != 1 || dice.next() % 2 == 0 {
+    if edition != 1 || dice.between(0, 1) == 0 {
         let place = dice.between(0, 4) as usize;
         head.insert(place, format!("edition {edition}"));
     }
