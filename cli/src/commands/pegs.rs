@@ -2,7 +2,7 @@
 
 use crate::commands::sheets::{each, Sheet, Sheets};
 use crate::commands::stations::{points, quoted, Form};
-use crate::commands::stops::{stations, too_many, Every, Stop};
+use crate::commands::stops::{end_of, stations, too_many, Every, Stop};
 use crate::console::{Console, Status};
 use crate::files::Name;
 use crate::line::Line;
@@ -63,9 +63,10 @@ fn print_list(
     console: &mut Console,
 ) -> io::Result<Status> {
     let name = csv_name(sheet);
+    let width = form.widest(end_of(stops)).max(USUAL_WIDTH);
     if form != Form::Csv {
         console.print(sheet.heading().as_bytes())?;
-        console.print(HEADING.as_bytes())?;
+        console.print(heading(width).as_bytes())?;
     }
     let count = stations(stops, every).count();
     for (i, (station, points)) in stations(stops, every).enumerate() {
@@ -75,7 +76,7 @@ fn print_list(
         let station = form.written(station);
         let row = match form {
             Form::Csv => csv_row(&name, &station, points, &numbers),
-            _ => row(&station, points, &numbers),
+            _ => row(width, &station, points, &numbers),
         };
         console.print(row.as_bytes())?;
         console.progress(i + 1, count, "pegs");
@@ -87,14 +88,19 @@ fn csv_name(sheet: &Sheet) -> String {
     quoted(&sheet.name.to_string_lossy())
 }
 
-const HEADING: &str =
-    "          STATION POINT ELEMENT    NUMBER       LENGTH          X          Y\n";
+/// The width of the stations' column; only estacas far beyond kilometre 200 take more.
+const USUAL_WIDTH: usize = 17;
 
-fn row(station: &str, points: &str, numbers: &[i64; PEG_NUMBERS]) -> String {
+fn heading(width: usize) -> String {
+    let station = "STATION";
+    format!("{station:>width$} POINT ELEMENT    NUMBER       LENGTH          X          Y\n")
+}
+
+fn row(width: usize, station: &str, points: &str, numbers: &[i64; PEG_NUMBERS]) -> String {
     let points = if points.is_empty() { "-" } else { points };
     let (kind, number) = (kind_of(numbers), numbers[peg::NUMBER]);
     let [length, x, y] = lengths_of(numbers);
-    format!("{station:>17} {points:<5} {kind:<10} {number:>6} {length:>12} {x:>10} {y:>10}\n")
+    format!("{station:>width$} {points:<5} {kind:<10} {number:>6} {length:>12} {x:>10} {y:>10}\n")
 }
 
 fn csv_row(sheet: &str, station: &str, points: &str, numbers: &[i64; PEG_NUMBERS]) -> String {

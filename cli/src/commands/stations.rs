@@ -38,6 +38,13 @@ impl Form {
             Form::Estacas => estacas(station),
         }
     }
+
+    /// The most letters of a station up to this one, µm: those of the last µm of its
+    /// estaca, since the metres of an estaca have one digit or two.
+    pub fn widest(self, station: u64) -> usize {
+        const ESTACA: u64 = 20_000_000;
+        self.written(station / ESTACA * ESTACA + ESTACA - 1).len()
+    }
 }
 
 pub fn run(form: Form, sheets: Sheets, console: &mut Console) -> io::Result<Status> {

@@ -83,9 +83,14 @@ impl Stop {
     }
 }
 
+/// The last station of a list, µm.
+pub fn end_of(stops: &[Stop]) -> u64 {
+    stops.last().map_or(0, |stop| stop.station)
+}
+
 /// That the list would be too long, and from which distance on it is not.
 pub fn too_many(stops: &[Stop], every: u64) -> Option<String> {
-    let length = stops.last()?.station - stops.first()?.station;
+    let length = end_of(stops) - stops.first()?.station;
     let least = metres_of_mm(length / (MOST + 1) / 1_000 + 1);
     let words = format!("more than {MOST} distances; --every may be {least} or more here");
     (length / every > MOST).then_some(words)

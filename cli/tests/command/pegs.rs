@@ -108,10 +108,15 @@ fn every_form_has_the_same_lines() {
     for Sample { path, .. } in accepted() {
         let [metres, km, estaca] =
             ["metres", "km", "estaca"].map(|form| run(&["pegs", "--as", form, &path]).text());
+        let widths = [&metres, &km, &estaca].map(|text| text.find(" POINT").unwrap());
+        // Of estacas from 100,000 on, as 2,000 km are.
+        let is_far = estaca.contains("200000 + ");
+        assert_eq!(widths, [17, 17, if is_far { 18 } else { 17 }]);
         let others = km.lines().zip(estaca.lines());
         for (metres, (km, estaca)) in metres.lines().zip(others).skip(1) {
-            let [(metres, line), (km, line_1), (estaca, line_2)] =
-                [metres, km, estaca].map(|line| line.split_at(17));
+            let (metres, line) = metres.split_at(widths[0]);
+            let (km, line_1) = km.split_at(widths[1]);
+            let (estaca, line_2) = estaca.split_at(widths[2]);
             assert_eq!([line_1, line_2], [line; 2]);
             let station = micrometres(metres.trim());
             assert_eq!(counted(km.trim(), 1_000), station);
