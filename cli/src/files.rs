@@ -5,9 +5,9 @@ use crate::console::input;
 use crate::signals::held_back;
 use std::ffi::OsStr;
 use std::fmt;
-use std::fs::{self, File, Metadata, OpenOptions, Permissions};
+use std::fs::{self, File, Metadata, OpenOptions};
 use std::io::{self, IsTerminal, Read, Write};
-use std::os::unix::fs::MetadataExt;
+use std::os::unix::fs::{fchown, MetadataExt};
 use std::path::{Path, PathBuf};
 
 /// One byte more than the longest sheet, so that a longer one is seen.
@@ -127,7 +127,7 @@ pub fn replace(name: &OsStr, bytes: &[u8]) -> io::Result<()> {
         Ok(old) if is_open(&old) => Err(io::Error::other("the file is in use, as text or output")),
         Ok(old) => {
             let path = fs::canonicalize(name)?;
-            held_back(|| replace_file(&path, Some(old.permissions()), bytes))
+            held_back(|| replace_file(&path, Some(&old), bytes))
         }
         Err(_) if fs::symlink_metadata(name).is_err() => {
             held_back(|| replace_file(name.as_ref(), None, bytes))
@@ -137,9 +137,9 @@ pub fn replace(name: &OsStr, bytes: &[u8]) -> io::Result<()> {
     }
 }
 
-fn replace_file(path: &Path, permissions: Option<Permissions>, bytes: &[u8]) -> io::Result<()> {
+fn replace_file(path: &Path, old: Option<&Metadata>, bytes: &[u8]) -> io::Result<()> {
     let (beside, file) = new_beside(path)?;
-    let written = write_checked(file, &beside, permissions, bytes);
+    let written = write_checked(file, &beside, old, bytes);
     let replaced = written.and_then(|()| fs::rename(&beside, path));
     if replaced.is_err() {
         let _ = fs::remove_file(&beside);
@@ -164,11 +164,11 @@ fn new_beside(path: &Path) -> io::Result<(PathBuf, File)> {
     }
 }
 
-/// Writes a file and reads it back.
+/// Writes a file and reads it back. It gets permissions and owner of an old one.
 fn write_checked(
     mut file: File,
     path: &Path,
-    permissions: Option<Permissions>,
+    old: Option<&Metadata>,
     bytes: &[u8],
 ) -> io::Result<()> {
     file.write_all(bytes)?;
@@ -176,5 +176,10 @@ fn write_checked(
     if fs::read(path)? != bytes {
         return Err(io::Error::other("the file does not hold what was written"));
     }
-    permissions.map_or(Ok(()), |permissions| file.set_permissions(permissions))
+    let Some(old) = old else {
+        return Ok(());
+    };
+    // Only root may give a file away: else it belongs to whoever wrote it.
+    let _ = fchown(&file, Some(old.uid()), Some(old.gid()));
+    file.set_permissions(old.permissions())
 }

@@ -3,7 +3,7 @@
 use crate::editions::converted;
 use crate::run::{command, run, run_in_shell, run_with_input, samples, Folder, Run};
 use std::fs;
-use std::os::unix::fs::PermissionsExt;
+use std::os::unix::fs::{MetadataExt, PermissionsExt};
 use std::path::{Path, PathBuf};
 use std::process::{Command, Stdio};
 use std::thread::sleep;
@@ -146,13 +146,21 @@ pokyandi: .: Is a directory
 }
 
 #[test]
-fn permissions_and_links_stay() {
+fn permissions_owners_and_links_stay() {
     let folder = Folder::new();
     let sheet = folder.file("a.sheet", &sample("case-01"));
     let link = folder.path("link");
     std::os::unix::fs::symlink(&sheet, &link).unwrap();
     fs::set_permissions(&sheet, PermissionsExt::from_mode(0o640)).unwrap();
+    // Only root may give a file away.
+    let _ = std::os::unix::fs::chown(&sheet, Some(1), Some(1));
+    let owners = || {
+        let file = fs::metadata(&sheet).unwrap();
+        [file.uid(), file.gid()]
+    };
+    let before = owners();
     assert_eq!(convert(&folder, "2", &[&link]).status, Some(0));
+    assert_eq!(owners(), before);
     assert_eq!(pokyandi::edition(&fs::read(&sheet).unwrap()), Ok(2));
     let mode = fs::metadata(&sheet).unwrap().permissions().mode();
     assert_eq!(mode & 0o777, 0o640);
