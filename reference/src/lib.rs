@@ -6,19 +6,20 @@
 //! line by line; its results are what the product's results are held against.
 //!
 //! The papers are in [`elements`], [`mod@line`], [`refusal`], [`road_tables`],
-//! [`sheet`] (its fields of bits in [`bits`]), [`stations`], [`pegs`], [`points`],
-//! [`profile`], [`sight`], [`lent`] and [`report`], their sums in fractions are in
-//! [`exact`]; a line as numbers is in [`line_numbers`], a sheet as text in
-//! [`hexadecimal`]; the samples are in [`samples`]. How far rule and fractions lie
-//! apart is in [`accuracy`], looked for by [`search`] and printed by
-//! [`accuracy_table`]; how far the ends of roads do is in [`drift`]. The station
-//! program is run by [`runner`].
+//! [`sheet`] (its editions in [`edition`], its fields of bits in [`bits`]),
+//! [`stations`], [`pegs`], [`points`], [`profile`], [`sight`], [`lent`] and
+//! [`report`], their sums in fractions are in [`exact`]; a line as numbers is in
+//! [`line_numbers`], a sheet as text in [`hexadecimal`]; the samples are in
+//! [`samples`]. How far rule and fractions lie apart is in [`accuracy`], looked for
+//! by [`search`] and printed by [`accuracy_table`]; how far the ends of roads do is
+//! in [`drift`]. The station program is run by [`runner`].
 
 pub mod accuracy;
 pub mod accuracy_table;
 pub mod bits;
 pub mod curve;
 pub mod drift;
+pub mod edition;
 pub mod elements;
 pub mod exact;
 pub mod hexadecimal;

@@ -1,6 +1,7 @@
 //! A line and the ranges of its fields (document 01, The line).
 
 use crate::curve::Curve;
+use crate::edition::SECOND;
 use crate::elements;
 use crate::refusal::{refuse, Refusal};
 use crate::road_tables::DesignSpeed;
@@ -10,8 +11,9 @@ use std::ops::RangeInclusive;
 pub const MOST_CURVES: usize = 64;
 /// Greatest superelevation e, percent.
 pub const CROSSFALLS: RangeInclusive<u32> = 2..=12;
-/// Greatest start station, mm.
-pub const GREATEST_START: u32 = 200_000_000;
+/// Greatest start station, mm: that of a sheet's last edition (document 02, Roads
+/// past kilometre 200).
+pub const GREATEST_START: u32 = SECOND.greatest_start;
 /// Greatest distance, mm.
 pub const GREATEST_DISTANCE: u32 = 20_000_000;
 
@@ -95,14 +97,14 @@ impl Line {
     }
 
     /// Checks 3 to 6, then 8 to 11 in sheet order (document 01, Refusal table,
-    /// Order).
-    pub fn check_ranges(&self) -> Result<(), Refusal> {
-        self.check_heading()?;
+    /// Order); the start is held against the greatest one given.
+    pub fn check_ranges(&self, greatest_start: u32) -> Result<(), Refusal> {
+        self.check_heading(greatest_start)?;
         self.check_entries()
     }
 
     /// Checks 3 to 6.
-    pub fn check_heading(&self) -> Result<(), Refusal> {
+    pub fn check_heading(&self, greatest_start: u32) -> Result<(), Refusal> {
         if self.curve_count() > MOST_CURVES {
             return refuse(3, 0);
         }
@@ -110,7 +112,7 @@ impl Line {
         if !CROSSFALLS.contains(&self.e) {
             return refuse(5, 0);
         }
-        if self.start > GREATEST_START {
+        if self.start > greatest_start {
             return refuse(6, 0);
         }
         Ok(())
@@ -154,16 +156,16 @@ mod tests {
     /// A line of `n` curves with every field at its greatest.
     fn greatest(n: usize) -> Line {
         let curves = vec![Curve::new(432_000, 5_000_000, 500_000); n];
-        Line::new(120, 12, 200_000_000, &vec![20_000_000; n + 1], &curves)
+        Line::new(120, 12, 4_000_000_000, &vec![20_000_000; n + 1], &curves)
     }
 
     #[test]
     fn ends_of_the_ranges_pass() {
         for n in [0, 1, 2, 64] {
-            assert_eq!(greatest(n).check_ranges(), Ok(()));
+            assert_eq!(greatest(n).check_ranges(GREATEST_START), Ok(()));
         }
         let least = Line::new(40, 2, 0, &[1, 1], &[Curve::new(1, 20_000, 0)]);
-        assert_eq!(least.check_ranges(), Ok(()));
+        assert_eq!(least.check_ranges(GREATEST_START), Ok(()));
     }
 
     #[test]
@@ -171,23 +173,34 @@ mod tests {
         let mut line = Line {
             v: 45,
             e: 1,
-            start: 200_000_001,
+            start: 4_000_000_001,
             n: 65,
             ..Line::blank()
         };
-        assert_eq!(line.check_ranges(), refuse(3, 0));
+        assert_eq!(line.check_ranges(GREATEST_START), refuse(3, 0));
         line.n = MOST;
-        assert_eq!(line.check_ranges(), refuse(3, 0));
+        assert_eq!(line.check_ranges(GREATEST_START), refuse(3, 0));
         line.n = 64;
-        assert_eq!(line.check_ranges(), refuse(4, 0));
+        assert_eq!(line.check_ranges(GREATEST_START), refuse(4, 0));
         line.v = 40;
-        assert_eq!(line.check_ranges(), refuse(5, 0));
+        assert_eq!(line.check_ranges(GREATEST_START), refuse(5, 0));
         line.e = 13;
-        assert_eq!(line.check_ranges(), refuse(5, 0));
+        assert_eq!(line.check_ranges(GREATEST_START), refuse(5, 0));
         line.e = 12;
-        assert_eq!(line.check_ranges(), refuse(6, 0));
-        line.start = 200_000_000;
-        assert_eq!(line.check_ranges(), refuse(8, 0));
+        assert_eq!(line.check_ranges(GREATEST_START), refuse(6, 0));
+        line.start = 4_000_000_000;
+        assert_eq!(line.check_ranges(GREATEST_START), refuse(8, 0));
+    }
+
+    #[test]
+    fn start_is_held_against_the_greatest_given() {
+        for greatest_start in [200_000_000, 4_000_000_000] {
+            let mut line = greatest(1);
+            line.start = greatest_start;
+            assert_eq!(line.check_ranges(greatest_start), Ok(()));
+            line.start += 1;
+            assert_eq!(line.check_ranges(greatest_start), refuse(6, 0));
+        }
     }
 
     #[test]
@@ -196,19 +209,19 @@ mod tests {
         line.distances[..3].copy_from_slice(&[0, 20_000_001, MOST]);
         line.curves[..2].fill(Curve::new(0, 19_999, 500_001));
         for i in 0..=2 {
-            assert_eq!(line.check_ranges(), refuse(8, i));
+            assert_eq!(line.check_ranges(GREATEST_START), refuse(8, i));
             line.distances[i] = 1;
             if i == 2 {
                 break;
             }
-            assert_eq!(line.check_ranges(), refuse(9, i + 1));
+            assert_eq!(line.check_ranges(GREATEST_START), refuse(9, i + 1));
             line.curves[i].a = 1;
-            assert_eq!(line.check_ranges(), refuse(10, i + 1));
+            assert_eq!(line.check_ranges(GREATEST_START), refuse(10, i + 1));
             line.curves[i].r = 20_000;
-            assert_eq!(line.check_ranges(), refuse(11, i + 1));
+            assert_eq!(line.check_ranges(GREATEST_START), refuse(11, i + 1));
             line.curves[i].l = 20_000;
         }
-        assert_eq!(line.check_ranges(), Ok(()));
+        assert_eq!(line.check_ranges(GREATEST_START), Ok(()));
     }
 
     #[test]
@@ -216,28 +229,28 @@ mod tests {
         let mut line = greatest(2);
         for side in [0, 1] {
             line.sides[1] = side;
-            assert_eq!(line.check_ranges(), Ok(()));
+            assert_eq!(line.check_ranges(GREATEST_START), Ok(()));
         }
         for side in [2, 3, MOST] {
             line.sides[1] = side;
-            assert_eq!(line.check_ranges(), refuse(9, 2));
+            assert_eq!(line.check_ranges(GREATEST_START), refuse(9, 2));
         }
         line.curves[1].r = 0;
-        assert_eq!(line.check_ranges(), refuse(9, 2));
+        assert_eq!(line.check_ranges(GREATEST_START), refuse(9, 2));
         line.distances[1] = 0;
-        assert_eq!(line.check_ranges(), refuse(8, 1));
+        assert_eq!(line.check_ranges(GREATEST_START), refuse(8, 1));
         line.sides[0] = 2;
-        assert_eq!(line.check_ranges(), refuse(9, 1));
+        assert_eq!(line.check_ranges(GREATEST_START), refuse(9, 1));
         line.start = MOST;
-        assert_eq!(line.check_ranges(), refuse(6, 0));
+        assert_eq!(line.check_ranges(GREATEST_START), refuse(6, 0));
     }
 
     #[test]
     fn last_entries_of_a_full_line() {
         let mut line = greatest(64);
         line.distances[64] = 0;
-        assert_eq!(line.check_ranges(), refuse(8, 64));
+        assert_eq!(line.check_ranges(GREATEST_START), refuse(8, 64));
         line.curves[63].l = 500_001;
-        assert_eq!(line.check_ranges(), refuse(11, 64));
+        assert_eq!(line.check_ranges(GREATEST_START), refuse(11, 64));
     }
 }

@@ -3,6 +3,7 @@
 //! numbers and write the sheet of them.
 
 use crate::curve::Curve;
+use crate::edition::Edition;
 use crate::lent::fill;
 use crate::line::{Line, MOST_CURVES};
 use crate::refusal::{refuse, Refusal};
@@ -21,14 +22,15 @@ pub const fn number_count(n: usize) -> usize {
 /// Reads a sheet: writes the numbers of its line at the front of the lent ones
 /// and returns their count. Refusals of the reader, then 16.
 pub fn read(sheet: &[u8], numbers: &mut [u32]) -> Result<usize, Refusal> {
-    fill(numbers, &sheet::read(sheet)?.numbers())
+    fill(numbers, &sheet::line_of(sheet)?.numbers())
 }
 
-/// Writes the sheet of the line with these numbers at the front of the bytes and
-/// returns its length. Refusal 3 also where they are not as many as n asks for,
-/// then those of the writer.
-pub fn write(numbers: &[u32], bytes: &mut [u8]) -> Result<usize, Refusal> {
-    sheet::write(&Line::of_numbers(numbers)?, bytes)
+/// Writes the sheet of the edition told and of the line with these numbers at the
+/// front of the bytes and returns its length. The writer's refusals in their order,
+/// 3 also where the numbers are not as many as n asks for.
+pub fn write(edition: u32, numbers: &[u32], bytes: &mut [u8]) -> Result<usize, Refusal> {
+    Edition::of(edition)?;
+    sheet::write(edition, &Line::of_numbers(numbers)?, bytes)
 }
 
 impl Line {
@@ -79,6 +81,7 @@ impl fmt::Display for Line {
 #[cfg(test)]
 mod tests {
     use super::*;
+    use crate::edition::{EDITIONS, FIRST};
     use crate::samples::dice::Dice;
     use crate::samples::ranges::line_in_range;
     use crate::samples::sheet_fields::sheet_of;
@@ -93,10 +96,14 @@ mod tests {
         (read(sheet, &mut numbers), numbers)
     }
 
-    /// The same of the call that writes, and bytes.
+    /// The same of the call that writes edition 1, and bytes.
     fn write_into(numbers: &[u32], room: usize) -> (Result<usize, Refusal>, Vec<u8>) {
+        write_in(1, numbers, room)
+    }
+
+    fn write_in(edition: u32, numbers: &[u32], room: usize) -> (Result<usize, Refusal>, Vec<u8>) {
         let mut bytes = vec![7; room];
-        (write(numbers, &mut bytes), bytes)
+        (write(edition, numbers, &mut bytes), bytes)
     }
 
     fn check_refused(numbers: &[u32], number: u8, place: usize) {
@@ -157,7 +164,7 @@ mod tests {
     fn too_few_or_too_many_numbers() {
         let mut dice = Dice::new(1);
         for n in [0, 1, 2, 63, 64] {
-            let numbers = line_in_range(&mut dice, n).numbers();
+            let numbers = line_in_range(&mut dice, FIRST, n).numbers();
             assert_eq!(numbers.len(), number_count(n));
             for count in (0..numbers.len()).rev().take(12) {
                 check_refused(&numbers[..count], 3, 0);
@@ -235,11 +242,40 @@ mod tests {
     #[test]
     fn numbers_come_back() {
         let mut dice = Dice::new(1);
-        for n in 0..=64 {
-            let numbers = line_in_range(&mut dice, n).numbers();
-            let (length, bytes) = write_into(&numbers, 706);
-            let sheet = &bytes[..length.unwrap()];
-            assert_eq!(read_into(sheet, numbers.len()).1, numbers);
+        for edition in EDITIONS {
+            for n in 0..=64 {
+                let numbers = line_in_range(&mut dice, edition, n).numbers();
+                let (length, bytes) = write_in(edition.number, &numbers, 706);
+                let sheet = &bytes[..length.unwrap()];
+                assert_eq!(read_into(sheet, numbers.len()).1, numbers);
+                assert_eq!(sheet::edition_of(sheet), Ok(edition));
+            }
+        }
+    }
+
+    /// Before the count of numbers, and before all else.
+    #[test]
+    fn edition_is_checked_first() {
+        for edition in [0, 3, 17, 1 << 31, MOST] {
+            for numbers in [&[][..], &CASE_1[..9], &with(0, MOST), &CASE_1] {
+                for room in [0, 720] {
+                    let expected = (refuse(2, 0), vec![7; room]);
+                    assert_eq!(write_in(edition, numbers, room), expected);
+                }
+            }
+        }
+    }
+
+    #[test]
+    fn starts_of_each_edition() {
+        for (edition, start, answer) in [
+            (1, 200_000_000, Ok(21)),
+            (1, 200_000_001, refuse(6, 0)),
+            (2, 200_000_001, Ok(21)),
+            (2, 4_000_000_000, Ok(21)),
+            (2, 4_000_000_001, refuse(6, 0)),
+        ] {
+            assert_eq!(write_in(edition, &with(3, start), 21).0, answer);
         }
     }
 }

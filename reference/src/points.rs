@@ -426,8 +426,8 @@ mod tests {
     fn answered_lines_pass_the_calculator() {
         for line in surveys().iter().filter_map(|survey| survey.line().ok()) {
             let mut bytes = [0; 706];
-            let length = sheet::write(&line, &mut bytes).unwrap();
-            assert_eq!(sheet::read(&bytes[..length]), Ok(line.clone()));
+            let length = sheet::write(2, &line, &mut bytes).unwrap();
+            assert_eq!(sheet::line_of(&bytes[..length]), Ok(line.clone()));
             assert!(stations::stations(&line, &mut [0; 257]).is_ok());
         }
     }

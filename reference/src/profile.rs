@@ -2,7 +2,6 @@
 //! and vertical curves. All work is in `i128`, so that no step can overflow.
 
 use crate::lent::fill;
-use crate::line::GREATEST_START;
 use crate::refusal::{refuse, Refusal};
 use crate::sight::{is_long_enough, stopping_distance};
 use std::ops::RangeInclusive;
@@ -10,7 +9,7 @@ use std::ops::RangeInclusive;
 /// How many vertices a profile may have.
 pub const MOST_VERTICES: usize = 32;
 /// Stations of start, vertices and heights, mm.
-pub const STATIONS: RangeInclusive<i64> = 0..=GREATEST_START as i64;
+pub const STATIONS: RangeInclusive<i64> = 0..=200_000_000;
 /// Greatest height of the start either way, mm.
 pub const GREATEST_HEIGHT: i64 = 10_000_000;
 /// Greatest grade either way, millionths.

@@ -33,7 +33,7 @@ pub fn report(input: &[u8]) -> String {
 /// The stations of the sheet on standard input, µm. The reader refuses first,
 /// then the calculator.
 pub fn row(input: &[u8]) -> Result<Vec<u64>, Refusal> {
-    let line = sheet::read(&input[..input.len().min(MOST_READ)])?;
+    let line = sheet::line_of(&input[..input.len().min(MOST_READ)])?;
     let mut row = vec![0; ROW_LENGTH];
     let count = stations(&line, &mut row)?;
     row.truncate(count);

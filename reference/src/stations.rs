@@ -3,7 +3,7 @@
 use crate::curve::Curve;
 use crate::elements::{arc, check_arc, working_rule};
 use crate::lent::fill;
-use crate::line::Line;
+use crate::line::{Line, GREATEST_START};
 use crate::refusal::{refuse, Refusal};
 
 /// Least straight, µm (document 01, Refusal table, 15).
@@ -21,7 +21,7 @@ pub fn stations(line: &Line, row: &mut [u64]) -> Result<usize, Refusal> {
 /// The calculator's checks but 16: 3 to 6, 8 to 11 in sheet order, then 12 to 14
 /// curve by curve, then 15.
 pub fn check(line: &Line) -> Result<(), Refusal> {
-    line.check_ranges()?;
+    line.check_ranges(GREATEST_START)?;
     check_curves(line)?;
     check_straights(line)
 }
@@ -191,11 +191,13 @@ mod tests {
     #[test]
     fn start_moves_every_station() {
         let line = Line {
-            start: 200_000_000,
+            start: 4_000_000_000,
             ..Line::case_1()
         };
-        let moved = CASE_1.map(|station| station + 200_000_000_000);
+        let moved = CASE_1.map(|station| station + 4_000_000_000_000);
         assert_eq!(call(&line, 5), (Ok(5), moved.to_vec()));
+        let start = 4_000_000_001;
+        check_refused(&Line { start, ..line }, 6, 0);
     }
 
     #[test]

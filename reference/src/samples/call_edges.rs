@@ -7,7 +7,7 @@ use super::named::{named, Claim, Named};
 use super::roads::road;
 use crate::curve::Curve;
 use crate::elements::{GREATEST_DEFLECTION, GREATEST_RADIUS, GREATEST_SPIRAL, SMALLEST_RADIUS};
-use crate::line::{Line, GREATEST_DISTANCE, GREATEST_START, MOST_CURVES};
+use crate::line::{Line, GREATEST_DISTANCE, MOST_CURVES};
 use crate::refusal::Refusal;
 
 const MOST: u32 = u32::MAX;
@@ -33,17 +33,39 @@ pub fn long_line(v: u32, e: u32, curve: Curve) -> Line {
     Line::new(v, e, 0, &[GREATEST_DISTANCE; 2], &[curve])
 }
 
-/// The line whose every field is at its greatest.
-pub fn longest_road() -> Line {
+/// The line whose every field is at the greatest that the callee takes.
+pub fn longest_road(callee: Callee) -> Line {
     let curve = Curve::new(GREATEST_DEFLECTION, GREATEST_RADIUS, GREATEST_SPIRAL);
     let distances = [GREATEST_DISTANCE; MOST_CURVES + 1];
-    Line::new(120, 12, GREATEST_START, &distances, &[curve; MOST_CURVES])
+    let start = callee.greatest_start();
+    Line::new(120, 12, start, &distances, &[curve; MOST_CURVES])
+}
+
+/// A road of `n` curves that the callee accepts.
+pub fn road_for(dice: &mut Dice, callee: Callee, n: usize) -> Line {
+    let mut line = road(dice, n);
+    line.start = line.start.min(callee.greatest_start());
+    line
 }
 
 /// The edges of checks 3 to 6 and 8 to 11.
-pub fn range_edges() -> Vec<Named<Line>> {
-    [heading_edges(), distance_edges(), curve_edges()].concat()
+pub fn range_edges(callee: Callee) -> Vec<Named<Line>> {
+    [heading_edges(callee), distance_edges(), curve_edges()].concat()
 }
+
+/// Starts on both sides of the greatest of either edition and of their widths.
+pub const START_EDGES: [u32; 10] = [
+    1,
+    199_999_999,
+    200_000_000,
+    200_000_001,
+    (1 << 28) - 1,
+    1 << 28,
+    3_999_999_999,
+    4_000_000_000,
+    4_000_000_001,
+    MOST,
+];
 
 /// Case 9 without a curve, and case 1 with one.
 fn short_lines() -> [(&'static str, Line); 2] {
@@ -52,7 +74,7 @@ fn short_lines() -> [(&'static str, Line); 2] {
 
 /// The edges of V, e, start and n; each value with the number of its refusal, 0
 /// where it is in range.
-fn heading_edges() -> Vec<Named<Line>> {
+fn heading_edges(callee: Callee) -> Vec<Named<Line>> {
     let speeds = [
         (0, 4),
         (39, 4),
@@ -66,12 +88,10 @@ fn heading_edges() -> Vec<Named<Line>> {
         (MOST, 4),
     ];
     let crossfalls = [(0, 5), (1, 5), (2, 0), (12, 0), (13, 5), (MOST, 5)];
-    let starts = [
-        (1, 0),
-        (GREATEST_START, 0),
-        (GREATEST_START + 1, 6),
-        (MOST, 6),
-    ];
+    let starts = START_EDGES.map(|start| {
+        let taken = start <= callee.greatest_start();
+        (start, if taken { 0 } else { 6 })
+    });
     let mut edges = Vec::new();
     for (name, line) in short_lines() {
         let mut add = |field: &str, value: u32, claim: Claim, line: Line| {
@@ -176,7 +196,7 @@ fn curve_edges() -> Vec<Named<Line>> {
 pub fn room_edges(dice: &mut Dice, callee: Callee) -> Vec<Named<Call>> {
     let mut edges = Vec::new();
     for n in [0, 1, 3, MOST_CURVES] {
-        let exact = exact_call(callee, road(dice, n));
+        let exact = exact_call(callee, road_for(dice, callee, n));
         let enough = exact.room;
         let mut rooms = vec![0, enough - 1, enough, enough + 1, enough + 4];
         rooms.push(callee.most_room());
@@ -239,7 +259,7 @@ pub fn range_faults(dice: &mut Dice, callee: Callee) -> Vec<Named<Call>> {
 
 /// A road of `n` curves with these faults.
 pub fn faulty_road(dice: &mut Dice, callee: Callee, n: usize, faults: &[Fault]) -> Named<Call> {
-    let mut call = exact_call(callee, road(dice, n));
+    let mut call = exact_call(callee, road_for(dice, callee, n));
     put_faults(dice, callee, &mut call, &refusals_of(faults));
     named(faulty_name("road", n, faults), first_of(faults), call)
 }

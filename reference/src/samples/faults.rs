@@ -5,10 +5,11 @@ use super::dice::Dice;
 use super::limits::{
     greatest_spiral, least_deflection, least_distance, least_radius, least_spiral,
 };
-use super::sheet_fields::{deflection, distance, radius, spiral, Field, CROSSFALL, SPEED, START};
+use super::sheet_fields::{deflection, distance, radius, spiral, start, Field, CROSSFALL, SPEED};
 use crate::curve::Curve;
+use crate::edition::SECOND;
 use crate::elements::{GREATEST_DEFLECTION, GREATEST_RADIUS, SMALLEST_RADIUS};
-use crate::line::{Line, GREATEST_DISTANCE, GREATEST_START};
+use crate::line::{Line, GREATEST_DISTANCE};
 use crate::refusal::Refusal;
 use crate::road_tables::DesignSpeed;
 
@@ -34,8 +35,11 @@ fn put_fault(dice: &mut Dice, callee: Callee, call: &mut Call, fault: Refusal) {
         3 => line.n = dice.one_of(&[65, 66, 127, 128, u32::MAX]),
         4 => line.v = dice.one_of(&[0, 30, 39, 41, 75, 119, 121, 126, most(SPEED)]),
         5 => line.e = dice.one_of(&[0, 1, 13, most(CROSSFALL)]),
-        6 => line.start = dice.one_of(&[GREATEST_START + 1, most(START)]),
-        8 => line.distances[i] = dice.one_of(&[0, GREATEST_DISTANCE + 1, most(distance(i))]),
+        6 => line.start = dice.one_of(&[callee.greatest_start() + 1, most(start(SECOND))]),
+        8 => {
+            let most = most(distance(SECOND, i));
+            line.distances[i] = dice.one_of(&[0, GREATEST_DISTANCE + 1, most]);
+        }
         15 => line.distances[i] = number_below(dice, 1, least_distance(line, i)),
         16 => {
             let room = callee.room_for(line.curve_count());
@@ -46,11 +50,11 @@ fn put_fault(dice: &mut Dice, callee: Callee, call: &mut Call, fault: Refusal) {
 }
 
 /// The greatest number that a field is given: the writer takes any, the
-/// calculator those of a sheet.
+/// calculator those of a sheet of edition 2.
 fn most_of(callee: Callee, field: Field) -> u32 {
     match callee {
         Callee::Calculator => field.most(),
-        Callee::Writer => u32::MAX,
+        Callee::Writer(_) => u32::MAX,
     }
 }
 
@@ -61,15 +65,20 @@ fn faulty_curve(dice: &mut Dice, callee: Callee, line: &Line, i: usize, number: 
     let most = |field| most_of(callee, field);
     match number {
         9 => Curve {
-            a: dice.one_of(&[0, GREATEST_DEFLECTION + 1, most(deflection(i))]),
+            a: dice.one_of(&[0, GREATEST_DEFLECTION + 1, most(deflection(SECOND, i))]),
             ..curve
         },
         10 => Curve {
-            r: dice.one_of(&[0, SMALLEST_RADIUS - 1, GREATEST_RADIUS + 1, most(radius(i))]),
+            r: dice.one_of(&[
+                0,
+                SMALLEST_RADIUS - 1,
+                GREATEST_RADIUS + 1,
+                most(radius(SECOND, i)),
+            ]),
             ..curve
         },
         11 => Curve {
-            l: dice.one_of(&[greatest_spiral(curve.r) + 1, most(spiral(i))]),
+            l: dice.one_of(&[greatest_spiral(curve.r) + 1, most(spiral(SECOND, i))]),
             ..curve
         },
         12 => small_radius(dice, speed, line.e, curve),
@@ -113,10 +122,15 @@ fn number_below(dice: &mut Dice, lowest: u32, limit: u32) -> u32 {
 
 #[cfg(test)]
 mod tests {
-    use super::super::roads::road;
+    use super::super::call_edges::road_for;
     use super::*;
+    use crate::edition::FIRST;
 
-    const CALLEES: [Callee; 2] = [Callee::Calculator, Callee::Writer];
+    const CALLEES: [Callee; 3] = [
+        Callee::Calculator,
+        Callee::Writer(FIRST),
+        Callee::Writer(SECOND),
+    ];
 
     /// A call that either callee accepts, with faults for these refusals.
     fn faulty(dice: &mut Dice, callee: Callee, line: Line, faults: &[Refusal]) -> Call {
@@ -150,7 +164,7 @@ mod tests {
         for callee in CALLEES {
             for n in (0..=10).chain([64]) {
                 for fault in every_fault(callee, n) {
-                    let line = road(&mut dice, n);
+                    let line = road_for(&mut dice, callee, n);
                     let call = faulty(&mut dice, callee, line, &[fault]);
                     assert_eq!(call.answer(callee), Err(fault), "{call:?}");
                 }
@@ -170,7 +184,7 @@ mod tests {
                     continue;
                 }
                 for _ in 0..100 {
-                    let line = road(&mut dice, 3);
+                    let line = road_for(&mut dice, callee, 3);
                     let [first, second] = [fault(number, 1), fault(number, 2)];
                     let faults = [second, first, fault(16, 0)];
                     let call = faulty(&mut dice, callee, line, &faults);

@@ -18,7 +18,7 @@ use crate::road_tables::{DesignSpeed, SPEEDS};
 /// Both sides of every check, at several places; then several faults at once.
 pub fn edges(dice: &mut Dice) -> Vec<Named<Call>> {
     let lines = [
-        range_edges(),
+        range_edges(Calculator),
         radius_edges(),
         SPEEDS.into_iter().flat_map(spiral_edges).collect(),
         whole_spiral_edges(),
@@ -27,7 +27,7 @@ pub fn edges(dice: &mut Dice) -> Vec<Named<Call>> {
         halves::lines(),
         vec![
             named("shortest road", Claim::Accepted, shortest_road()),
-            named("longest road", Claim::Accepted, longest_road()),
+            named("longest road", Claim::Accepted, longest_road(Calculator)),
         ],
     ];
     let mut calls: Vec<Named<Call>> = lines

@@ -1,14 +1,16 @@
 //! Calls for a peg: the ends of every element and the stations next to them,
 //! lengths on a spiral where the roundings count or a half is left, and rooms.
 
+use super::call::Callee;
 use super::call_edges::{long_line, longest_road, LARGE_DEFLECTION};
 use super::dice::Dice;
 use super::halves::{BELOW_HALF_LENGTHS, HALF_LENGTHS};
 use super::named::{named, Claim, Named};
 use super::roads::{road, road_with_straight};
 use crate::curve::Curve;
+use crate::edition::EDITIONS;
 use crate::elements::GREATEST_SPIRAL;
-use crate::line::{Line, GREATEST_START, LEFT, MOST_CURVES};
+use crate::line::{Line, LEFT, MOST_CURVES};
 use crate::pegs::{stretches, Stretch, PEG_NUMBERS};
 use std::collections::BTreeSet;
 
@@ -42,16 +44,17 @@ pub fn edges(dice: &mut Dice) -> Vec<Named<PegCall>> {
 }
 
 fn lines(dice: &mut Dice) -> Vec<(&'static str, Line)> {
-    let late = Line {
-        start: GREATEST_START,
+    let [late, far] = EDITIONS.map(|edition| Line {
+        start: edition.greatest_start,
         ..Line::case_1()
-    };
+    });
     let simple = long_line(70, 8, Curve::new(1, 350_000, 0));
     let sharpest = |r| long_line(40, 12, Curve::new(LARGE_DEFLECTION, r, r));
     vec![
         ("case 1", Line::case_1()),
         ("case 1 to the left", to_the_left(Line::case_1())),
-        ("case 1 from the greatest start", late),
+        ("case 1 from the greatest start of edition 1", late),
+        ("case 1 from the greatest start", far),
         ("case 9", Line::case_9()),
         ("no spirals", simple),
         ("L and R of 48000", sharpest(48_000)),
@@ -61,7 +64,10 @@ fn lines(dice: &mut Dice) -> Vec<(&'static str, Line)> {
         ),
         ("straight of 1 mm", road_with_straight(dice, 3, 1, 1_000)),
         ("road of 64 curves", road(dice, MOST_CURVES)),
-        ("longest road to the left", to_the_left(longest_road())),
+        (
+            "longest road to the left",
+            to_the_left(longest_road(Callee::Calculator)),
+        ),
     ]
 }
 

@@ -342,7 +342,13 @@ fn heading_edges() -> Vec<Named<Survey>> {
                 },
             );
         }
-        let starts = [(GREATEST_START, 0), (GREATEST_START + 1, 6), (MOST, 6)];
+        let starts = [
+            (200_000_000, 0),
+            (200_000_001, 0),
+            (GREATEST_START, 0),
+            (GREATEST_START + 1, 6),
+            (MOST, 6),
+        ];
         for (start, number) in starts {
             add(number, Heading { start, ..HEADING });
         }

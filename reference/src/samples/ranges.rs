@@ -1,19 +1,21 @@
-//! Lines whose fields are anywhere in range: the writer takes them, the
-//! calculator may not.
+//! Lines whose fields are anywhere in range: the writer takes them in their
+//! edition, the calculator may not.
 
 use super::dice::Dice;
 use super::limits::greatest_spiral;
 use super::roads::any_side;
+use super::sheet_fields::sheet_in;
 use crate::curve::Curve;
+use crate::edition::Edition;
 use crate::elements::{GREATEST_DEFLECTION, GREATEST_RADIUS, SMALLEST_RADIUS};
-use crate::line::{Line, CROSSFALLS, GREATEST_DISTANCE, GREATEST_START};
+use crate::line::{Line, CROSSFALLS, GREATEST_DISTANCE};
 use crate::road_tables::SPEEDS;
 
-/// A line of `n` curves.
-pub fn line_in_range(dice: &mut Dice, n: usize) -> Line {
+/// A line of `n` curves for this edition.
+pub fn line_in_range(dice: &mut Dice, edition: Edition, n: usize) -> Line {
     let v = dice.one_of(&SPEEDS).v;
     let e = dice.between(*CROSSFALLS.start(), *CROSSFALLS.end());
-    let start = number_in_range(dice, 0, GREATEST_START);
+    let start = number_in_range(dice, 0, edition.greatest_start);
     let curves: Vec<Curve> = (0..n).map(|_| curve_in_range(dice)).collect();
     let distances: Vec<u32> = (0..=n)
         .map(|_| number_in_range(dice, 1, GREATEST_DISTANCE))
@@ -21,6 +23,11 @@ pub fn line_in_range(dice: &mut Dice, n: usize) -> Line {
     let mut line = Line::new(v, e, start, &distances, &curves);
     line.sides[..n].fill_with(|| any_side(dice));
     line
+}
+
+/// The sheet of such a line.
+pub fn sheet_in_range(dice: &mut Dice, edition: Edition, n: usize) -> Vec<u8> {
+    sheet_in(edition, &line_in_range(dice, edition, n))
 }
 
 fn curve_in_range(dice: &mut Dice) -> Curve {
@@ -43,15 +50,18 @@ fn number_in_range(dice: &mut Dice, least: u32, most: u32) -> u32 {
 #[cfg(test)]
 mod tests {
     use super::*;
+    use crate::edition::EDITIONS;
 
     #[test]
     fn lines_are_in_range() {
         let mut dice = Dice::new(1);
-        for n in 0..=64 {
-            for _ in 0..20 {
-                let line = line_in_range(&mut dice, n);
-                assert_eq!(line.curve_count(), n);
-                assert_eq!(line.check_ranges(), Ok(()));
+        for edition in EDITIONS {
+            for n in 0..=64 {
+                for _ in 0..20 {
+                    let line = line_in_range(&mut dice, edition, n);
+                    assert_eq!(line.curve_count(), n);
+                    assert_eq!(line.check_ranges(edition.greatest_start), Ok(()));
+                }
             }
         }
     }

@@ -5,6 +5,7 @@ use super::limits::{
     greatest_spiral, least_deflection, least_distance, least_radius, least_spiral,
 };
 use crate::curve::Curve;
+use crate::edition::FIRST;
 use crate::elements::{GREATEST_DEFLECTION, GREATEST_RADIUS};
 use crate::line::{Line, CROSSFALLS, GREATEST_START, LEFT, MOST_CURVES, RIGHT};
 use crate::road_tables::{DesignSpeed, SPEEDS};
@@ -99,6 +100,7 @@ fn road_start(dice: &mut Dice) -> u32 {
     match dice.between(0, 3) {
         0 => 0,
         1 => dice.between(0, GREATEST_START),
+        2 => dice.spread(1, FIRST.greatest_start),
         _ => dice.spread(1, GREATEST_START),
     }
 }

@@ -1,43 +1,52 @@
 //! Sheets at the edges of the reader's checks.
 
-use super::call_edges::{faulty_name, first_of, longest_road, refusals_of, Fault};
+use super::call::Callee::Writer;
+use super::call_edges::{faulty_name, first_of, longest_road, refusals_of, Fault, START_EDGES};
 use super::dice::Dice;
 use super::named::{named, Claim, Named};
-use super::ranges::line_in_range;
+use super::ranges::sheet_in_range;
 use super::roads::shortest_road;
 use super::sheet_faults::put_faults;
 use super::sheet_fields::{
-    deflection, distance, fill, flip, radius, sheet_of, side, spiral, Field, COUNT, CROSSFALL,
-    EDITION, SPEED, START,
+    deflection, distance, fill, flip, radius, sheet_in, side, spiral, start, Field, COUNT,
+    CROSSFALL, EDITION, SPEED,
 };
+use crate::edition::{Edition, EDITIONS};
 use crate::elements::{GREATEST_DEFLECTION, GREATEST_RADIUS, GREATEST_SPIRAL, SMALLEST_RADIUS};
-use crate::line::{Line, GREATEST_DISTANCE, GREATEST_START, MOST_CURVES};
+use crate::line::{Line, GREATEST_DISTANCE, MOST_CURVES};
 use crate::road_tables::SPEEDS;
 
 /// A sheet with a name.
 pub type NamedSheet = Named<Vec<u8>>;
 
-/// Both sides of every check, at several places; then several faults at once.
+/// Those of both editions.
 pub fn edges(dice: &mut Dice) -> Vec<NamedSheet> {
-    [
-        length_edges(dice),
-        equal_bytes(),
-        count_edges(dice),
-        heading_edges(),
-        fill_edges(dice),
-        distance_edges(dice),
-        curve_edges(),
-        roads(),
-        every_bit_flipped(),
-        faults_at_every_place(dice),
-        several_faults(dice),
-    ]
-    .concat()
+    let mut edges = equal_bytes();
+    for edition in EDITIONS {
+        edges.extend(edges_of(dice, edition).into_iter().map(|edge| {
+            let name = format!("edition {}, {}", edition.number, edge.name);
+            Named { name, ..edge }
+        }));
+    }
+    edges
 }
 
-/// A sheet of `n` curves in range.
-fn sheet_in_range(dice: &mut Dice, n: usize) -> Vec<u8> {
-    sheet_of(&line_in_range(dice, n))
+/// Both sides of every check, at several places; then several faults at once.
+fn edges_of(dice: &mut Dice, edition: Edition) -> Vec<NamedSheet> {
+    [
+        length_edges(dice, edition),
+        count_edges(dice, edition),
+        heading_edges(edition),
+        other_number(dice, edition),
+        fill_edges(dice, edition),
+        distance_edges(dice, edition),
+        curve_edges(edition),
+        roads(edition),
+        every_bit_flipped(edition),
+        faults_at_every_place(dice, edition),
+        several_faults(dice, edition),
+    ]
+    .concat()
 }
 
 /// A value of a field, and the number of its refusal; 0 where it is in range.
@@ -60,10 +69,10 @@ fn heading(name: &str, field: Field) -> Edged {
 }
 
 /// A field of the entries, at its place.
-fn entry(name: &str, field: fn(usize) -> Field, place: usize) -> Edged {
+fn entry(name: &str, field: Field, place: usize) -> Edged {
     Edged {
         name: format!("{name} {place}"),
-        field: field(place),
+        field,
         place,
     }
 }
@@ -85,8 +94,8 @@ fn with_values(name: &str, sheet: &[u8], edged: Edged, values: &[Value]) -> Vec<
 }
 
 /// Sheets cut short, exact, and longer.
-fn length_edges(dice: &mut Dice) -> Vec<NamedSheet> {
-    let case_9 = sheet_of(&Line::case_9());
+fn length_edges(dice: &mut Dice, edition: Edition) -> Vec<NamedSheet> {
+    let case_9 = sheet_in(edition, &Line::case_9());
     let cut = |name: String, sheet: &[u8], length: usize| {
         let name = format!("{name}, cut to {length} bytes");
         named(name, Claim::of(1, 0), sheet[..length].to_vec())
@@ -95,7 +104,7 @@ fn length_edges(dice: &mut Dice) -> Vec<NamedSheet> {
         .map(|length| cut("case 9".to_string(), &case_9, length))
         .collect();
     for n in [0, 1, 2, 3, 63, MOST_CURVES] {
-        let sheet = sheet_in_range(dice, n);
+        let sheet = sheet_in_range(dice, edition, n);
         let name = || format!("sheet of {n} curves");
         let lengths = [sheet.len() - 1, sheet.len() - 2, 7, 6];
         sheets.extend(lengths.map(|length| cut(name(), &sheet, length)));
@@ -117,7 +126,8 @@ fn length_edges(dice: &mut Dice) -> Vec<NamedSheet> {
 /// All bytes alike, at the lengths where the reader looks at them.
 fn equal_bytes() -> Vec<NamedSheet> {
     let mut sheets = Vec::new();
-    for (byte, number) in [(0x00, 2), (0x10, 4), (0x11, 4), (0xFF, 2)] {
+    let bytes = [0x00, 0x10, 0x11, 0x20, 0x22, 0x33, 0xFF];
+    for (byte, number) in bytes.into_iter().zip([2, 4, 4, 4, 4, 2, 2]) {
         for length in [1, 6, 7, 10, 21, 706, 720] {
             let number = if length < 7 { 1 } else { number };
             let name = format!("{length} bytes {byte:02x}");
@@ -128,7 +138,7 @@ fn equal_bytes() -> Vec<NamedSheet> {
 }
 
 /// Other counts in sheets of no curve, of one and of the most.
-fn count_edges(dice: &mut Dice) -> Vec<NamedSheet> {
+fn count_edges(dice: &mut Dice, edition: Edition) -> Vec<NamedSheet> {
     let counts = [0, 1, 2, 63, 64, 65, 66, 127];
     let mut sheets = Vec::new();
     for (n, numbers) in [
@@ -136,7 +146,7 @@ fn count_edges(dice: &mut Dice) -> Vec<NamedSheet> {
         (1, [7, 0, 1, 1, 1, 3, 3, 3]),
         (MOST_CURVES, [7, 7, 7, 7, 0, 3, 3, 3]),
     ] {
-        let sheet = sheet_in_range(dice, n);
+        let sheet = sheet_in_range(dice, edition, n);
         let values: Vec<Value> = counts.into_iter().zip(numbers).collect();
         let name = format!("bytes of {n} curves");
         sheets.extend(with_values(&name, &sheet, heading("n", COUNT), &values));
@@ -144,9 +154,13 @@ fn count_edges(dice: &mut Dice) -> Vec<NamedSheet> {
     sheets
 }
 
-/// The edges of edition and V without a curve, of e and start also with one.
-fn heading_edges() -> Vec<NamedSheet> {
-    let editions: Vec<Value> = (0..16).map(|i| (i, if i == 1 { 0 } else { 2 })).collect();
+/// The edges of edition and V without a curve, of e and start also with one. Case 9
+/// with the other edition's number is another line, its distance 16 times as long
+/// or as short.
+fn heading_edges(edition: Edition) -> Vec<NamedSheet> {
+    let editions: Vec<Value> = (0..16)
+        .map(|number| (number, if matches!(number, 1 | 2) { 0 } else { 2 }))
+        .collect();
     let speeds: Vec<Value> = SPEEDS
         .into_iter()
         .flat_map(|speed| [(speed.v - 1, 4), (speed.v, 0), (speed.v + 1, 4)])
@@ -155,19 +169,18 @@ fn heading_edges() -> Vec<NamedSheet> {
     let crossfalls: Vec<Value> = (0..16)
         .map(|e| (e, if (2..=12).contains(&e) { 0 } else { 5 }))
         .collect();
-    let starts = [
-        (1, 0),
-        (GREATEST_START - 1, 0),
-        (GREATEST_START, 0),
-        (GREATEST_START + 1, 6),
-        // The two highest bits alone.
-        (3 << 26, 6),
-        (START.most() - 1, 6),
-        (START.most(), 6),
-    ];
+    let start = start(edition);
+    // The two highest bits alone, and the field's last.
+    let wide = [3 << (start.width - 2), start.most() - 1, start.most()];
+    let starts: Vec<Value> = START_EDGES
+        .into_iter()
+        .filter(|start_edge| *start_edge < start.most() - 1)
+        .chain(wide)
+        .map(|value| (value, if value > edition.greatest_start { 6 } else { 0 }))
+        .collect();
     let few_crossfalls = [(1, 5), (2, 0), (12, 0), (13, 5)];
-    let without_curve = sheet_of(&Line::case_9());
-    let with_curve = sheet_of(&Line::case_1());
+    let without_curve = sheet_in(edition, &Line::case_9());
+    let with_curve = sheet_in(edition, &Line::case_1());
     let case_9 = |edged, values: &[Value]| with_values("case 9", &without_curve, edged, values);
     let case_1 = |edged, values: &[Value]| with_values("case 1", &with_curve, edged, values);
     [
@@ -175,20 +188,36 @@ fn heading_edges() -> Vec<NamedSheet> {
         case_9(heading("V", SPEED), &speeds),
         case_9(heading("e", CROSSFALL), &crossfalls),
         case_1(heading("e", CROSSFALL), &few_crossfalls),
-        case_9(heading("start", START), &starts),
-        case_1(heading("start", START), &starts),
+        case_9(heading("start", start), &starts),
+        case_1(heading("start", start), &starts),
     ]
     .concat()
 }
 
+/// Sheets with the other edition's number in their first four bits: every field
+/// behind V and e stands elsewhere.
+fn other_number(dice: &mut Dice, edition: Edition) -> Vec<NamedSheet> {
+    let other = edition.other().number;
+    let mut sheets = Vec::new();
+    for n in (0..=8).chain([63, MOST_CURVES]) {
+        let sheet = EDITION.with(&sheet_in_range(dice, edition, n), other);
+        let name = format!("sheet of {n} curves, edition is {other}");
+        sheets.push(named(name, Claim::Open, sheet));
+    }
+    let case_1 = EDITION.with(&sheet_in(edition, &Line::case_1()), other);
+    let name = format!("case 1, edition is {other}");
+    sheets.push(named(name, Claim::Open, case_1));
+    sheets
+}
+
 /// Every fill bit alone, all of them, and the last bit before them changed, for
 /// every width of the fill.
-fn fill_edges(dice: &mut Dice) -> Vec<NamedSheet> {
+fn fill_edges(dice: &mut Dice, edition: Edition) -> Vec<NamedSheet> {
     let mut sheets = Vec::new();
     for n in (0..8).chain([MOST_CURVES]) {
-        let sheet = sheet_in_range(dice, n);
+        let sheet = sheet_in_range(dice, edition, n);
         let name = format!("sheet of {n} curves");
-        let fill = fill(n);
+        let fill = fill(edition, n);
         let bits: Vec<Value> = (0..fill.width).map(|bit| (1 << bit, 7)).collect();
         sheets.extend(with_values(&name, &sheet, heading("fill", fill), &bits));
         let all = Claim::of(if fill.width == 0 { 0 } else { 7 }, 0);
@@ -203,33 +232,35 @@ fn fill_edges(dice: &mut Dice) -> Vec<NamedSheet> {
 }
 
 /// The edges of the first, a middle and the last distance.
-fn distance_edges(dice: &mut Dice) -> Vec<NamedSheet> {
+fn distance_edges(dice: &mut Dice, edition: Edition) -> Vec<NamedSheet> {
     let mut sheets = Vec::new();
     for (n, i) in [(0, 0), (2, 0), (2, 1), (2, 2), (MOST_CURVES, MOST_CURVES)] {
-        let sheet = sheet_in_range(dice, n);
+        let sheet = sheet_in_range(dice, edition, n);
         let values = [
             (0, 8),
             (1, 0),
             (GREATEST_DISTANCE, 0),
             (GREATEST_DISTANCE + 1, 8),
-            (distance(i).most(), 8),
+            (distance(edition, i).most(), 8),
         ];
         let name = format!("sheet of {n} curves");
-        let edged = entry("distance", distance, i);
+        let edged = entry("distance", distance(edition, i), i);
         sheets.extend(with_values(&name, &sheet, edged, &values));
     }
     sheets
 }
 
 /// The edges of side, A, R and L.
-fn curve_edges() -> Vec<NamedSheet> {
-    let sheet = sheet_of(&Line::case_1());
+fn curve_edges(edition: Edition) -> Vec<NamedSheet> {
+    let sheet = sheet_in(edition, &Line::case_1());
+    let [side, deflection, radius, spiral] =
+        [side, deflection, radius, spiral].map(|field| field(edition, 1));
     let deflections = [
         (0, 9),
         (1, 0),
         (GREATEST_DEFLECTION, 0),
         (GREATEST_DEFLECTION + 1, 9),
-        (deflection(1).most(), 9),
+        (deflection.most(), 9),
     ];
     // L is 40,000.
     let radii = [
@@ -240,7 +271,7 @@ fn curve_edges() -> Vec<NamedSheet> {
         (40_000, 0),
         (GREATEST_RADIUS, 0),
         (GREATEST_RADIUS + 1, 10),
-        (radius(1).most(), 10),
+        (radius.most(), 10),
     ];
     // R is 350,000.
     let short_spirals = [
@@ -250,12 +281,12 @@ fn curve_edges() -> Vec<NamedSheet> {
         (350_001, 11),
         (GREATEST_SPIRAL, 11),
     ];
-    let large_radius = radius(1).with(&sheet, 500_001);
+    let large_radius = radius.with(&sheet, 500_001);
     let spirals = [
         (GREATEST_SPIRAL - 1, 0),
         (GREATEST_SPIRAL, 0),
         (GREATEST_SPIRAL + 1, 11),
-        (spiral(1).most(), 11),
+        (spiral.most(), 11),
     ];
     let case_1 = |edged, values: &[Value]| with_values("case 1", &sheet, edged, values);
     [
@@ -274,8 +305,9 @@ fn curve_edges() -> Vec<NamedSheet> {
 }
 
 /// The shortest and the longest road of 64 curves.
-fn roads() -> Vec<NamedSheet> {
-    let [shortest, longest] = [shortest_road(), longest_road()].map(|road| sheet_of(&road));
+fn roads(edition: Edition) -> Vec<NamedSheet> {
+    let [shortest, longest] =
+        [shortest_road(), longest_road(Writer(edition))].map(|road| sheet_in(edition, &road));
     vec![
         named("sheet of the shortest road", Claim::Accepted, shortest),
         named("sheet of the longest road", Claim::Accepted, longest),
@@ -283,8 +315,8 @@ fn roads() -> Vec<NamedSheet> {
 }
 
 /// Case 1 with each bit changed, fill included.
-fn every_bit_flipped() -> Vec<NamedSheet> {
-    let sheet = sheet_of(&Line::case_1());
+fn every_bit_flipped(edition: Edition) -> Vec<NamedSheet> {
+    let sheet = sheet_in(edition, &Line::case_1());
     let flipped = |bit: usize| {
         let mut sheet = sheet.clone();
         flip(&mut sheet, bit);
@@ -295,13 +327,13 @@ fn every_bit_flipped() -> Vec<NamedSheet> {
 
 /// Refusals 8 to 11 at the first, a middle and the last place of a sheet, and of
 /// a full one.
-fn faults_at_every_place(dice: &mut Dice) -> Vec<NamedSheet> {
+fn faults_at_every_place(dice: &mut Dice, edition: Edition) -> Vec<NamedSheet> {
     let mut sheets = Vec::new();
     for number in 8..=11 {
         let first = usize::from(number != 8);
         for (n, middle) in [(5, 3), (MOST_CURVES, 31)] {
             for place in [first, middle, n] {
-                sheets.push(faulty_sheet(dice, n, &[(number, place)]));
+                sheets.push(faulty_sheet(dice, edition, n, &[(number, place)]));
             }
         }
     }
@@ -351,20 +383,20 @@ const FAULTS_OF_64: [&[Fault]; 6] = [
 ];
 
 /// Several faults at once, so that the order of the checks shows.
-fn several_faults(dice: &mut Dice) -> Vec<NamedSheet> {
+fn several_faults(dice: &mut Dice, edition: Edition) -> Vec<NamedSheet> {
     let mut sheets = Vec::new();
-    sheets.extend(FAULTS_OF_FOUR.map(|faults| faulty_sheet(dice, 4, faults)));
-    sheets.extend(FAULTS_OF_64.map(|faults| faulty_sheet(dice, 64, faults)));
-    sheets.extend(cut_faults(dice));
+    sheets.extend(FAULTS_OF_FOUR.map(|faults| faulty_sheet(dice, edition, 4, faults)));
+    sheets.extend(FAULTS_OF_64.map(|faults| faulty_sheet(dice, edition, 64, faults)));
+    sheets.extend(cut_faults(dice, edition));
     sheets
 }
 
 /// Each fault of the heading, cut to six bytes, refused 1; and to seven, refused
 /// for the fault.
-fn cut_faults(dice: &mut Dice) -> Vec<NamedSheet> {
+fn cut_faults(dice: &mut Dice, edition: Edition) -> Vec<NamedSheet> {
     let mut sheets = Vec::new();
     for fault in 2..=6 {
-        let faulty = faulty_sheet(dice, 4, &[(fault, 0), (8, 0)]);
+        let faulty = faulty_sheet(dice, edition, 4, &[(fault, 0), (8, 0)]);
         sheets.extend([(6, 1), (7, fault)].map(|(length, number)| {
             let name = format!("{}, cut to {length} bytes", faulty.name);
             let sheet = faulty.sample[..length].to_vec();
@@ -375,8 +407,8 @@ fn cut_faults(dice: &mut Dice) -> Vec<NamedSheet> {
 }
 
 /// A sheet of `n` curves with these faults.
-fn faulty_sheet(dice: &mut Dice, n: usize, faults: &[Fault]) -> NamedSheet {
-    let mut sheet = sheet_in_range(dice, n);
+fn faulty_sheet(dice: &mut Dice, edition: Edition, n: usize, faults: &[Fault]) -> NamedSheet {
+    let mut sheet = sheet_in_range(dice, edition, n);
     put_faults(dice, &mut sheet, &refusals_of(faults));
     named(faulty_name("sheet", n, faults), first_of(faults), sheet)
 }
@@ -399,10 +431,14 @@ mod tests {
 
     #[test]
     fn every_fill_bit_is_refused() {
-        let edges = fill_edges(&mut Dice::new(1));
-        let refused = edges.iter().filter(|edge| edge.claim == Claim::of(7, 0));
-        // Bits of the fill for 0 to 7 curves and for 64; all bits of each but
-        // that of 3 curves, which has none.
-        assert_eq!(refused.count(), (5 + 6 + 7 + 1 + 2 + 3 + 4 + 5) + 8);
+        // Bits of the fill for 0 to 7 curves and for 64; all bits of each but that
+        // of 3 curves, in edition 2 of 7, which has none.
+        let of_the_first = (5 + 6 + 7 + 1 + 2 + 3 + 4 + 5) + 8;
+        let of_the_second = (1 + 2 + 3 + 4 + 5 + 6 + 7 + 1) + 8;
+        for (edition, count) in EDITIONS.into_iter().zip([of_the_first, of_the_second]) {
+            let edges = fill_edges(&mut Dice::new(1), edition);
+            let refused = edges.iter().filter(|edge| edge.claim == Claim::of(7, 0));
+            assert_eq!(refused.count(), count);
+        }
     }
 }

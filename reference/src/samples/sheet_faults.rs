@@ -3,11 +3,11 @@
 use super::dice::Dice;
 use super::limits::greatest_spiral;
 use super::sheet_fields::{
-    deflection, distance, fill, flip, radius, spiral, Field, COUNT, CROSSFALL, EDITION, SPEED,
-    START,
+    deflection, distance, edition_said, fill, flip, radius, spiral, start, Field, COUNT, CROSSFALL,
+    EDITION, SPEED,
 };
 use crate::elements::{GREATEST_DEFLECTION, GREATEST_RADIUS, SMALLEST_RADIUS};
-use crate::line::{CROSSFALLS, GREATEST_DISTANCE, GREATEST_START, MOST_CURVES};
+use crate::line::{CROSSFALLS, GREATEST_DISTANCE, MOST_CURVES};
 use crate::refusal::Refusal;
 use crate::road_tables::DesignSpeed;
 use crate::sheet::sheet_length;
@@ -31,8 +31,8 @@ pub fn any_fault(dice: &mut Dice, n: usize) -> Refusal {
 /// Puts a fault for each of these refusals into a sheet that is accepted.
 pub fn put_faults(dice: &mut Dice, sheet: &mut Vec<u8>, faults: &[Refusal]) {
     let mut faults = faults.to_vec();
-    // L before R, which it is held against, and n after all that ask for it; the
-    // sheet is cut last, and only once.
+    // L before R, which it is held against, and n and the edition after all that ask
+    // for them; the sheet is cut last, and only once.
     faults.sort_by_key(|fault| std::cmp::Reverse(fault.number));
     faults.dedup();
     for fault in faults {
@@ -42,20 +42,24 @@ pub fn put_faults(dice: &mut Dice, sheet: &mut Vec<u8>, faults: &[Refusal]) {
 
 fn put_fault(dice: &mut Dice, sheet: &mut Vec<u8>, fault: Refusal) {
     let i = fault.place;
+    let edition = edition_said(sheet);
     match fault.number {
         1 => cut(dice, sheet),
-        2 => put_outside(dice, sheet, EDITION, 1..=1),
+        2 => put_outside(dice, sheet, EDITION, 1..=2),
         3 => put_outside(dice, sheet, COUNT, 0..=MOST_CURVES as u32),
         4 => put_unknown_speed(dice, sheet),
         5 => put_outside(dice, sheet, CROSSFALL, CROSSFALLS),
-        6 => put_outside(dice, sheet, START, 0..=GREATEST_START),
+        6 => put_outside(dice, sheet, start(edition), 0..=edition.greatest_start),
         7 => overrun(dice, sheet),
-        8 => put_outside(dice, sheet, distance(i), 1..=GREATEST_DISTANCE),
-        9 => put_outside(dice, sheet, deflection(i), 1..=GREATEST_DEFLECTION),
-        10 => put_outside(dice, sheet, radius(i), SMALLEST_RADIUS..=GREATEST_RADIUS),
+        8 => put_outside(dice, sheet, distance(edition, i), 1..=GREATEST_DISTANCE),
+        9 => put_outside(dice, sheet, deflection(edition, i), 1..=GREATEST_DEFLECTION),
+        10 => {
+            let radii = SMALLEST_RADIUS..=GREATEST_RADIUS;
+            put_outside(dice, sheet, radius(edition, i), radii);
+        }
         11 => {
-            let most = greatest_spiral(radius(i).value(sheet));
-            put_outside(dice, sheet, spiral(i), 0..=most);
+            let most = greatest_spiral(radius(edition, i).value(sheet));
+            put_outside(dice, sheet, spiral(edition, i), 0..=most);
         }
         number => unreachable!("{number} is no refusal of the reader"),
     }
@@ -64,7 +68,7 @@ fn put_fault(dice: &mut Dice, sheet: &mut Vec<u8>, fault: Refusal) {
 /// Cuts the sheet: often by one byte, often within the heading.
 pub fn cut(dice: &mut Dice, sheet: &mut Vec<u8>) {
     let n = COUNT.value(sheet).min(MOST_CURVES as u32);
-    let last = sheet_length(n as usize) - 1;
+    let last = sheet_length(edition_said(sheet), n as usize) - 1;
     let any = dice.index(0, last);
     let within_heading = dice.index(0, 6);
     sheet.truncate(dice.one_of(&[last, any, within_heading]));
@@ -79,7 +83,7 @@ fn overrun(dice: &mut Dice, sheet: &mut Vec<u8>) {
 
 /// Sets bits of the fill, often only one. False if the sheet has no fill.
 fn set_fill(dice: &mut Dice, sheet: &mut [u8]) -> bool {
-    let fill = fill(COUNT.value(sheet) as usize);
+    let fill = fill(edition_said(sheet), COUNT.value(sheet) as usize);
     if fill.width == 0 {
         return false;
     }
@@ -127,17 +131,23 @@ fn put_unknown_speed(dice: &mut Dice, sheet: &mut [u8]) {
 
 #[cfg(test)]
 mod tests {
-    use super::super::ranges::line_in_range;
-    use super::super::sheet_fields::sheet_of;
+    use super::super::ranges::sheet_in_range;
     use super::*;
+    use crate::edition::EDITIONS;
     use crate::sheet::read;
+
+    /// A sheet of either edition.
+    fn any_sheet(dice: &mut Dice, n: usize) -> Vec<u8> {
+        let edition = dice.one_of(&EDITIONS);
+        sheet_in_range(dice, edition, n)
+    }
 
     #[test]
     fn one_fault_is_the_refusal() {
         let mut dice = Dice::new(1);
         for n in (0..=10).chain([64]) {
-            for _ in 0..100 {
-                let mut sheet = sheet_of(&line_in_range(&mut dice, n));
+            for _ in 0..200 {
+                let mut sheet = any_sheet(&mut dice, n);
                 let fault = any_fault(&mut dice, n);
                 put_faults(&mut dice, &mut sheet, &[fault]);
                 assert_eq!(read(&sheet), Err(fault), "{sheet:02x?}");
@@ -149,8 +159,8 @@ mod tests {
     fn one_of_three_faults_is_the_refusal() {
         let mut dice = Dice::new(1);
         for n in (0..=4).chain([64]) {
-            for _ in 0..300 {
-                let mut sheet = sheet_of(&line_in_range(&mut dice, n));
+            for _ in 0..600 {
+                let mut sheet = any_sheet(&mut dice, n);
                 let faults = [(); 3].map(|_| any_fault(&mut dice, n));
                 put_faults(&mut dice, &mut sheet, &faults);
                 let refusal = read(&sheet).expect_err("the sheet has faults");
@@ -163,8 +173,8 @@ mod tests {
     fn first_of_two_places_is_the_refusal() {
         let mut dice = Dice::new(1);
         for number in 8..=11 {
-            for _ in 0..100 {
-                let mut sheet = sheet_of(&line_in_range(&mut dice, 3));
+            for _ in 0..200 {
+                let mut sheet = any_sheet(&mut dice, 3);
                 let [first, second] = [1, 2].map(|place| Refusal { number, place });
                 put_faults(&mut dice, &mut sheet, &[second, first]);
                 assert_eq!(read(&sheet), Err(first), "{sheet:02x?}");

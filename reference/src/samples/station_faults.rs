@@ -5,7 +5,7 @@ use super::call::{Call, Callee::Calculator};
 use super::dice::Dice;
 use super::faults;
 use super::sheet_faults;
-use super::sheet_fields::sheet_of;
+use super::sheet_fields::sheet_of_either;
 use crate::line::Line;
 use crate::refusal::Refusal;
 
@@ -35,8 +35,8 @@ pub fn first_place(number: u8) -> usize {
     usize::from(!matches!(number, 8 | 15))
 }
 
-/// The sheet of a road that is accepted, with a fault for each of these
-/// refusals.
+/// The sheet of a road that is accepted, in either edition, with a fault for each
+/// of these refusals.
 pub fn faulty_sheet(dice: &mut Dice, road: Line, faults: &[Refusal]) -> Vec<u8> {
     let (of_reader, of_calculator): (Vec<Refusal>, Vec<Refusal>) = faults
         .iter()
@@ -46,7 +46,7 @@ pub fn faulty_sheet(dice: &mut Dice, road: Line, faults: &[Refusal]) -> Vec<u8> 
         line: road,
     };
     faults::put_faults(dice, Calculator, &mut call, &of_calculator);
-    let mut sheet = sheet_of(&call.line);
+    let mut sheet = sheet_of_either(dice, &call.line);
     sheet_faults::put_faults(dice, &mut sheet, &of_reader);
     sheet
 }

@@ -1,6 +1,8 @@
 //! The sample sheets for the station program: document 01's cases, the edges of
 //! the reader's and the calculator's checks, then random sheets.
 
+use super::call::Callee::Writer;
+use super::call_edges::road_for;
 use super::dice::Dice;
 use super::named::{named, Claim};
 use super::near_limits::{
@@ -9,11 +11,12 @@ use super::near_limits::{
 use super::roads::road;
 use super::sheet_edges::NamedSheet;
 use super::sheet_faults::{cut, flip_any, lengthen};
-use super::sheet_fields::{sheet_of, sheet_of_any};
-use super::sheets::{any_bytes, any_bytes_of_the_edition, any_entries};
+use super::sheet_fields::{editions_for, sheet_in, sheet_of_any, sheet_of_either};
+use super::sheets::{any_bytes, any_bytes_of_an_edition, any_entries};
 use super::station_cases::document_cases;
 use super::station_faults::{any_fault, any_place, faulty_sheet, first_place};
 use super::{line_edges, sheet_edges};
+use crate::edition::{Edition, EDITIONS};
 use crate::hexadecimal::MOST_BYTES;
 use crate::line::{Line, MOST_CURVES};
 use crate::refusal::Refusal;
@@ -34,7 +37,8 @@ pub fn sample_station_sheets(seed: u64, count: usize) -> impl Iterator<Item = Ve
 }
 
 /// Both sides of every check of the reader and of the calculator, and several
-/// faults at once; of the calculator's, those that fit a sheet.
+/// faults at once; of the calculator's, those that fit a sheet, in the editions
+/// that take them by turns.
 fn edges(dice: &mut Dice) -> Vec<Vec<u8>> {
     let mut lines: Vec<Line> = line_edges::edges(dice)
         .into_iter()
@@ -44,23 +48,36 @@ fn edges(dice: &mut Dice) -> Vec<Vec<u8>> {
     lines.dedup();
     let without_names = |edges: Vec<NamedSheet>| edges.into_iter().map(|edge| edge.sample);
     let mut sheets: Vec<Vec<u8>> = without_names(sheet_edges::edges(dice)).collect();
-    sheets.extend(lines.iter().filter_map(sheet_of_any));
+    sheets.extend(lines.iter().enumerate().filter_map(|(i, line)| {
+        let editions = editions_for(line);
+        sheet_of_any(editions[i % editions.len()], line)
+    }));
     sheets.extend(without_names(full_length_edges(dice)));
     sheets
 }
 
-/// Sheets of few curves and of the most, made as long as the program reads, one
-/// byte less and more, and longer.
+/// Sheets of few curves and of the most, in both editions, made as long as the
+/// program reads, one byte less and more, and longer.
 pub fn full_length_edges(dice: &mut Dice) -> Vec<NamedSheet> {
+    EDITIONS
+        .into_iter()
+        .flat_map(|edition| full_length_edges_of(dice, edition))
+        .collect()
+}
+
+fn full_length_edges_of(dice: &mut Dice, edition: Edition) -> Vec<NamedSheet> {
     let mut sheets = Vec::new();
     for n in [0, 1, 63, MOST_CURVES] {
         for length in LENGTHS {
-            let number = if length == sheet_length(n) { 0 } else { 7 };
-            let claim = Claim::accepted_or(number, 0);
+            let whole = length == sheet_length(edition, n);
+            let claim = Claim::accepted_or(if whole { 0 } else { 7 }, 0);
             for byte in [0x00, 0xFF] {
-                let mut sheet = sheet_of(&road(dice, n));
+                let mut sheet = sheet_in(edition, &road_for(dice, Writer(edition), n));
                 sheet.resize(length, byte);
-                let name = format!("road of {n} curves, with {byte:02x} to {length} bytes");
+                let name = format!(
+                    "edition {}, road of {n} curves, with {byte:02x} to {length} bytes",
+                    edition.number
+                );
                 sheets.push(named(name, claim, sheet));
             }
         }
@@ -102,7 +119,10 @@ fn roads(dice: &mut Dice) -> Vec<Vec<u8>> {
         (MOST_CURVES, MOST_CURVES),
     ];
     counts
-        .map(|(least, most)| sheet_of(&road_of(dice, least, most)))
+        .map(|(least, most)| {
+            let road = road_of(dice, least, most);
+            sheet_of_either(dice, &road)
+        })
         .to_vec()
 }
 
@@ -122,7 +142,10 @@ fn roads_near_limits(dice: &mut Dice) -> Vec<Vec<u8>> {
         near_least_straight,
         near_least_straight,
     ]
-    .map(|road| sheet_of(&road(dice)))
+    .map(|road| {
+        let road = road(dice);
+        sheet_of_either(dice, &road)
+    })
     .to_vec()
 }
 
@@ -165,8 +188,10 @@ fn faulty_roads(dice: &mut Dice) -> Vec<Vec<u8>> {
 
 /// Sheets with a bit changed, cut, lengthened; and any bytes.
 fn damaged_sheets(dice: &mut Dice) -> Vec<Vec<u8>> {
-    let [mut flipped, mut also_flipped, mut short, mut long, mut resized] =
-        [(); 5].map(|_| sheet_of(&any_road(dice, 0)));
+    let [mut flipped, mut also_flipped, mut short, mut long, mut resized] = [(); 5].map(|_| {
+        let road = any_road(dice, 0);
+        sheet_of_either(dice, &road)
+    });
     flip_any(dice, &mut flipped);
     flip_any(dice, &mut also_flipped);
     cut(dice, &mut short);
@@ -174,7 +199,7 @@ fn damaged_sheets(dice: &mut Dice) -> Vec<Vec<u8>> {
     resized.resize(dice.one_of(&LENGTHS), dice.byte());
     let bytes = match dice.between(0, 2) {
         0 => any_bytes(dice),
-        1 => any_bytes_of_the_edition(dice),
+        1 => any_bytes_of_an_edition(dice),
         _ => any_entries(dice),
     };
     vec![flipped, also_flipped, short, long, resized, bytes]
@@ -182,8 +207,10 @@ fn damaged_sheets(dice: &mut Dice) -> Vec<Vec<u8>> {
 
 #[cfg(test)]
 mod tests {
+    use super::super::sheet_fields::edition_said;
     use super::*;
     use crate::report::row;
+    use crate::sheet::edition_of;
     use std::collections::BTreeSet;
     use std::sync::LazyLock;
 
@@ -221,7 +248,7 @@ mod tests {
     #[test]
     fn most_are_random() {
         let fixed = document_cases().len() + edges(&mut Dice::new(2)).len();
-        assert!(LIST.len() >= fixed + 5_000, "{fixed} are not random");
+        assert!(LIST.len() >= fixed + 4_000, "{fixed} are not random");
     }
 
     #[test]
@@ -244,6 +271,27 @@ mod tests {
         let counts: BTreeSet<usize> = accepted.into_iter().collect();
         assert!((0..=10).chain([64]).all(|n| counts.contains(&n)));
         assert!(counts.len() >= 50, "{counts:?}");
+    }
+
+    /// Of the sheets that say so, and of those that are accepted.
+    #[test]
+    fn both_editions_often() {
+        for edition in EDITIONS {
+            let says = |sheet: &&Vec<u8>| {
+                sheet
+                    .first()
+                    .is_some_and(|_| edition_said(sheet) == edition)
+            };
+            let times = LIST.iter().filter(says).count();
+            assert!(
+                times >= 2_400,
+                "edition {} only {times} times",
+                edition.number
+            );
+            let reads = |sheet: &&Vec<u8>| edition_of(sheet) == Ok(edition);
+            let times = LIST.iter().filter(reads).count();
+            assert!(times >= 1_200, "{times} of edition {} read", edition.number);
+        }
     }
 
     #[test]
