@@ -3,6 +3,8 @@
 //! differences uses their dice, limits and roads.
 
 pub mod call;
+pub mod call_edges;
+pub mod convert_edges;
 pub mod curves;
 pub mod dice;
 pub mod halves;
@@ -25,7 +27,6 @@ pub mod station_sheets;
 pub mod surveys;
 pub mod writer_edges;
 
-mod call_edges;
 mod faults;
 mod near_limits;
 mod sheet_faults;

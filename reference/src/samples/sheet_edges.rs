@@ -407,7 +407,7 @@ fn cut_faults(dice: &mut Dice, edition: Edition) -> Vec<NamedSheet> {
 }
 
 /// A sheet of `n` curves with these faults.
-fn faulty_sheet(dice: &mut Dice, edition: Edition, n: usize, faults: &[Fault]) -> NamedSheet {
+pub fn faulty_sheet(dice: &mut Dice, edition: Edition, n: usize, faults: &[Fault]) -> NamedSheet {
     let mut sheet = sheet_in_range(dice, edition, n);
     put_faults(dice, &mut sheet, &refusals_of(faults));
     named(faulty_name("sheet", n, faults), first_of(faults), sheet)

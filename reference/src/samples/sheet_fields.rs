@@ -61,10 +61,10 @@ pub const fn fill(edition: Edition, n: usize) -> Field {
     field(first, (8 * sheet_length(edition, n) - first) as u32)
 }
 
-/// The edition that a sheet of one byte or more says it has; the first where it is
-/// none of the two.
+/// The edition that a sheet says it has; the first where it says none of the two.
 pub fn edition_said(sheet: &[u8]) -> Edition {
-    Edition::of(EDITION.value(sheet)).unwrap_or(FIRST)
+    let number = sheet.first().map_or(0, |byte| u32::from(byte >> 4));
+    Edition::of(number).unwrap_or(FIRST)
 }
 
 impl Field {
@@ -235,7 +235,7 @@ mod tests {
             let distances = [0, 1].map(|i| distance(edition, i).value(&sheet));
             assert_eq!(distances, [500_000, 400_000]);
         }
-        assert_eq!(edition_said(&[0x30]), FIRST);
+        assert_eq!([&[0x30][..], &[]].map(edition_said), [FIRST; 2]);
     }
 
     #[test]
