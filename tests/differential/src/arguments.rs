@@ -10,12 +10,12 @@ usage: differential run [--seed S] [--count N]
 run       calls the static library and the reference with the same N inputs
           and compares the answers and every byte or number of the memory,
           lent or not. An input is one of the calls stations, check, rewrite,
-          elements, text, read, write, peg, points and height with one sheet,
-          curve, line, list of points or profile and one lent buffer. The first
-          inputs have a name. Prints how often each
-          call gave each answer. With 20000 inputs or more, every refusal that a
+          elements, text, read, write, peg, points, height, edition and convert
+          with one sheet, curve, line, list of points or profile and one lent
+          buffer. The first inputs have a name. Prints how often each call gave
+          each answer. With 20000 inputs or more, every refusal that a
           call can give must occur.
-          Without options: seed 1, 40000 inputs.
+          Without options: seed 1, 80000 inputs.
 replay    compares one input of a run again, and prints it.
 accuracy  holds the library's stations, elements and offsets on spirals of N
           lines against document 01's sums in fractions. Prints the largest
@@ -51,7 +51,7 @@ pub fn command_of(arguments: &[String]) -> Result<Command, String> {
     }
     match name.as_str() {
         "run" => {
-            let [seed, count] = numbers(options, [("--seed", Some(1)), ("--count", Some(40_000))])?;
+            let [seed, count] = numbers(options, [("--seed", Some(1)), ("--count", Some(80_000))])?;
             let count = not_zero("--count", count)?;
             Ok(Command::Run { seed, count })
         }
@@ -131,7 +131,7 @@ mod tests {
             read("run"),
             Ok(Command::Run {
                 seed: 1,
-                count: 40_000
+                count: 80_000
             })
         );
         let given = Command::Run { seed: 5, count: 7 };

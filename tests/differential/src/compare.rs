@@ -1,11 +1,13 @@
 //! The comparison: both sides get the same input, and all that they answer and
 //! write is compared.
 
+use crate::conversion_laws::broken_conversion_law;
 use crate::height_laws::broken_height_law;
 use crate::input::{Input, Request};
 use crate::laws::broken_law;
 use crate::memory::{Entry, EntryDifference, Memory};
 use crate::side::{Answer, Reference, Side};
+use reference::refusal::refuse;
 use reference::report::refusal_number;
 use std::fmt;
 use std::hint::black_box;
@@ -23,7 +25,7 @@ pub enum Difference {
     /// Writing what was read, or reading what was written, does not give the
     /// sheet or line back.
     NotBack,
-    /// A law of lines from coordinates or of heights is broken.
+    /// A law of lines from coordinates, of heights or of conversions is broken.
     Law(&'static str),
 }
 
@@ -86,11 +88,20 @@ pub fn compare(library: &dyn Side, input: &Input) -> Comparison {
         }),
         Request::Read(sheet) => with_given(input, sheet, |sheet| {
             let outcome = both(input, library, |side, line| side.read(sheet, line));
-            undone(outcome, sheet, |line, bytes| library.write(line, bytes))
+            undone(outcome, sheet, |line, bytes| {
+                let edition = library.edition(sheet)?;
+                library.write(edition as u32, line, bytes)
+            })
         }),
-        Request::Write(line) => with_given(input, line, |line| {
-            let outcome = both(input, library, |side, bytes| side.write(line, bytes));
-            undone(outcome, line, |sheet, numbers| library.read(sheet, numbers))
+        Request::Write(edition, line) => with_given(input, line, |line| {
+            let call = |side: &dyn Side, bytes: &mut [u8]| side.write(*edition, line, bytes);
+            let outcome = both(input, library, call);
+            undone(outcome, line, |sheet, numbers| {
+                if library.edition(sheet)? != *edition as usize {
+                    return refuse(2, 0);
+                }
+                library.read(sheet, numbers)
+            })
         }),
         Request::Peg(sheet, station) => with_given(input, sheet, |sheet| {
             let call = |side: &dyn Side, numbers: &mut [i64]| side.peg(sheet, *station, numbers);
@@ -108,6 +119,16 @@ pub fn compare(library: &dyn Side, input: &Input) -> Comparison {
             let call = |side: &dyn Side, height: &mut [i64]| side.height(profile, *station, height);
             lawful(both(input, library, call).0, || {
                 broken_height_law(library, profile, *station)
+            })
+        }),
+        Request::Edition(sheet) => with_given(input, sheet, |sheet| {
+            let nothing_lent = |side: &dyn Side, _: &mut [u8]| side.edition(sheet);
+            both(input, library, nothing_lent).0
+        }),
+        Request::Convert(sheet, edition) => with_given(input, sheet, |sheet| {
+            let call = |side: &dyn Side, bytes: &mut [u8]| side.convert(sheet, *edition, bytes);
+            lawful(both(input, library, call).0, || {
+                broken_conversion_law(library, sheet)
             })
         }),
     }
@@ -214,11 +235,11 @@ mod tests {
     use crate::input::{Call, Room};
     use crate::side::Library;
     use crate::spoilt::{Change, Spoilt};
+    use reference::edition::SECOND;
     use reference::line::Line;
-    use reference::refusal::refuse;
     use reference::samples::point_edges::case_1;
     use reference::samples::profile_edges::crest;
-    use reference::samples::sheet_fields::sheet_of;
+    use reference::samples::sheet_fields::{sheet_in, sheet_of};
 
     /// A count that is one too large.
     fn count<T>(answer: Answer, _: &mut [T]) -> Answer {
@@ -285,7 +306,7 @@ mod tests {
             .map(|request| request(sheet.clone()))
             .into();
         requests.push(Request::Elements(Line::case_1().curve(1)));
-        requests.push(Request::Write(Line::case_1().numbers()));
+        requests.push(Request::Write(1, Line::case_1().numbers()));
         requests.push(Request::FromPoints(case_1()));
         requests.push(Request::Height(crest().numbers(), 200_000));
         assert_eq!(requests.len(), Call::ALL.len());
@@ -295,7 +316,7 @@ mod tests {
     /// Those that are lent memory.
     fn lending_requests() -> Vec<Request> {
         let mut requests = requests();
-        requests.retain(|request| !matches!(request, Request::Check(_)));
+        requests.retain(|request| !matches!(request, Request::Check(_) | Request::Edition(_)));
         requests
     }
 
@@ -329,7 +350,10 @@ mod tests {
     #[test]
     fn wrong_answers_are_found() {
         let answer = Some(Difference::Answer);
-        let wrong_count = spoilt(count, count, count, count);
+        let wrong_count = Spoilt {
+            edition: |sheet| count(Reference.edition(sheet), &mut [0]),
+            ..spoilt(count, count, count, count)
+        };
         let refusals = [
             spoilt(number, number, number, number),
             spoilt(place, place, place, place),
@@ -377,8 +401,8 @@ mod tests {
     /// Each call is as it should be, but the one that undoes it is not.
     #[test]
     fn reader_and_writer_that_do_not_undo_each_other_are_found() {
-        let write = Request::Write(Line::case_1().numbers());
-        let read = Request::Read(sheet_of(&Line::case_1()));
+        let write = Request::Write(2, Line::case_1().numbers());
+        let read = Request::Read(sheet_in(SECOND, &Line::case_1()));
         let not_back = Some(Difference::NotBack);
         for wrong_reader in [content, count, refusing] {
             let library = Spoilt {
@@ -395,6 +419,16 @@ mod tests {
             };
             assert_eq!(difference(&library, &read, Room::Needed(0)), not_back);
             assert_eq!(difference(&library, &read, Room::Needed(-1)), None);
+        }
+        let other_edition = Spoilt {
+            edition: |sheet| Ok(3 - Reference.edition(sheet)?),
+            ..Spoilt::NOT
+        };
+        for request in [read, write] {
+            assert_eq!(
+                difference(&other_edition, &request, Room::Needed(0)),
+                not_back
+            );
         }
     }
 
@@ -422,6 +456,16 @@ mod tests {
         };
         let from_0 = Request::Height(crest().numbers(), 200_000);
         let found = difference(&library, &from_0, Room::Needed(0));
+        assert!(matches!(found, Some(Difference::Law(_))), "{found:?}");
+        let library = Spoilt {
+            convert: |sheet, edition, bytes| match edition {
+                1 => refuse(24, 0),
+                _ => Reference.convert(sheet, edition, bytes),
+            },
+            ..Spoilt::NOT
+        };
+        let there = Request::Convert(sheet_of(&Line::case_1()), 2);
+        let found = difference(&library, &there, Room::Needed(0));
         assert!(matches!(found, Some(Difference::Law(_))), "{found:?}");
     }
 

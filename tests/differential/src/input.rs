@@ -3,9 +3,10 @@
 
 use crate::side::{stretches_of, text_of};
 use reference::curve::Curve;
+use reference::edition::{Edition, FIRST};
 use reference::line::MOST_CURVES;
 use reference::line_numbers::number_count;
-use reference::samples::sheet_fields::COUNT;
+use reference::samples::sheet_fields::{edition_said, COUNT};
 use reference::samples::surveys::Survey;
 use reference::sheet::sheet_length;
 
@@ -22,10 +23,12 @@ pub enum Call {
     Peg,
     FromPoints,
     Height,
+    Edition,
+    Convert,
 }
 
 impl Call {
-    pub const ALL: [Call; 10] = [
+    pub const ALL: [Call; 12] = [
         Call::Stations,
         Call::Check,
         Call::Rewrite,
@@ -36,6 +39,8 @@ impl Call {
         Call::Peg,
         Call::FromPoints,
         Call::Height,
+        Call::Edition,
+        Call::Convert,
     ];
 
     pub fn name(self) -> &'static str {
@@ -50,6 +55,8 @@ impl Call {
             Call::Peg => "peg",
             Call::FromPoints => "points",
             Call::Height => "height",
+            Call::Edition => "edition",
+            Call::Convert => "convert",
         }
     }
 
@@ -57,8 +64,8 @@ impl Call {
     pub fn most_room(self) -> usize {
         match self {
             Call::Stations => 300,
-            Call::Check => 0,
-            Call::Rewrite => 740,
+            Call::Check | Call::Edition => 0,
+            Call::Rewrite | Call::Convert => 740,
             Call::Elements => 12,
             Call::Text => 5_600,
             Call::Read => 340,
@@ -77,16 +84,19 @@ impl Call {
             Call::Rewrite | Call::Read => (1..=11).chain([16]).collect(),
             Call::Elements => vec![9, 10, 11, 14, 16],
             Call::Text => vec![16],
-            Call::Write => vec![3, 4, 5, 6, 8, 9, 10, 11, 16],
+            Call::Write => vec![2, 3, 4, 5, 6, 8, 9, 10, 11, 16],
             Call::Peg => (1..=17).collect(),
             Call::FromPoints => vec![3, 4, 5, 6, 8, 10, 11, 12, 13, 14, 15, 16, 18, 19, 20],
             Call::Height => vec![3, 4, 6, 16, 17, 21, 22, 23],
+            Call::Edition => (1..=11).collect(),
+            Call::Convert => (1..=11).chain([16, 24]).collect(),
         }
     }
 }
 
 /// A call with its sheet, its curve, the numbers of its line, its points or the
-/// numbers of its profile; a peg and a height with the station too.
+/// numbers of its profile; a peg and a height with the station too, a line that is
+/// written and a sheet that is converted with the edition.
 #[derive(Clone, Debug, PartialEq, Eq)]
 pub enum Request {
     Stations(Vec<u8>),
@@ -95,21 +105,25 @@ pub enum Request {
     Elements(Curve),
     Text(Vec<u8>),
     Read(Vec<u8>),
-    Write(Vec<u32>),
+    Write(u32, Vec<u32>),
     Peg(Vec<u8>, u64),
     FromPoints(Survey),
     Height(Vec<i64>, u64),
+    Edition(Vec<u8>),
+    Convert(Vec<u8>, u32),
 }
 
 impl Request {
     /// The requests of a sheet.
-    pub const OF_A_SHEET: [fn(Vec<u8>) -> Request; 6] = [
+    pub const OF_A_SHEET: [fn(Vec<u8>) -> Request; 8] = [
         Request::Stations,
         Request::Check,
         Request::Rewrite,
         Request::Text,
         Request::Read,
         Request::peg_midway,
+        Request::Edition,
+        Request::other_edition,
     ];
 
     /// The peg midway between start and end; at 0 where the sheet is refused.
@@ -120,6 +134,12 @@ impl Request {
         Request::Peg(sheet, station)
     }
 
+    /// The sheet in the other edition than it says.
+    fn other_edition(sheet: Vec<u8>) -> Request {
+        let asked = edition_said(&sheet).other().number;
+        Request::Convert(sheet, asked)
+    }
+
     pub fn call(&self) -> Call {
         match self {
             Request::Stations(_) => Call::Stations,
@@ -128,10 +148,12 @@ impl Request {
             Request::Elements(_) => Call::Elements,
             Request::Text(_) => Call::Text,
             Request::Read(_) => Call::Read,
-            Request::Write(_) => Call::Write,
+            Request::Write(..) => Call::Write,
             Request::Peg(..) => Call::Peg,
             Request::FromPoints(_) => Call::FromPoints,
             Request::Height(..) => Call::Height,
+            Request::Edition(_) => Call::Edition,
+            Request::Convert(..) => Call::Convert,
         }
     }
 
@@ -145,8 +167,10 @@ impl Request {
             | Request::Rewrite(sheet)
             | Request::Text(sheet)
             | Request::Read(sheet)
-            | Request::Peg(sheet, _) => curves_of(sheet),
-            Request::Write(line) => line.first().map_or(0, |n| at_most_64(*n)),
+            | Request::Peg(sheet, _)
+            | Request::Edition(sheet)
+            | Request::Convert(sheet, _) => curves_of(sheet),
+            Request::Write(_, line) => line.first().map_or(0, |n| at_most_64(*n)),
             Request::FromPoints(survey) => survey.curve_count().min(MOST_CURVES),
         }
     }
@@ -157,8 +181,11 @@ impl Request {
         let n = self.curves();
         match self {
             Request::Stations(_) => 4 * n + 1,
-            Request::Check(_) => 0,
-            Request::Rewrite(_) | Request::Write(_) => sheet_length(n),
+            Request::Check(_) | Request::Edition(_) => 0,
+            Request::Rewrite(sheet) => sheet_length(edition_said(sheet), n),
+            Request::Write(edition, _) | Request::Convert(_, edition) => {
+                sheet_length(Edition::of(*edition).unwrap_or(FIRST), n)
+            }
             Request::Elements(_) => pokyandi::ELEMENT_NUMBERS,
             Request::Text(sheet) => text_of(sheet).len(),
             Request::Read(_) | Request::FromPoints(_) => number_count(n),
@@ -212,18 +239,19 @@ impl Input {
 #[cfg(test)]
 mod tests {
     use super::*;
+    use reference::edition::SECOND;
     use reference::line::Line;
     use reference::samples::point_edges::case_1;
     use reference::samples::profile_edges::crest;
-    use reference::samples::sheet_fields::sheet_of;
+    use reference::samples::sheet_fields::{sheet_in, sheet_of};
 
     #[test]
     fn needs_of_case_1() {
         let sheet = sheet_of(&Line::case_1());
         let requests = Request::OF_A_SHEET.map(|request| request(sheet.clone()));
         let needs = requests.map(|request| request.needed());
-        assert_eq!(needs, [5, 0, 21, 20 + 4 * 16 + 17, 10, 5]);
-        let line = Request::Write(Line::case_1().numbers());
+        assert_eq!(needs, [5, 0, 21, 20 + 4 * 16 + 17, 10, 5, 0, 21]);
+        let line = Request::Write(1, Line::case_1().numbers());
         assert_eq!(line.needed(), 21);
         let curve = Request::Elements(Line::case_1().curve(1));
         assert_eq!(curve.needed(), 6);
@@ -243,8 +271,9 @@ mod tests {
             pokyandi::LINE_NUMBERS
         );
         assert_eq!(Request::Peg(vec![], 0).needed(), 5);
-        assert_eq!(Request::Write(vec![]).needed(), 10);
-        assert_eq!(Request::Write(vec![u32::MAX]).needed(), 706);
+        assert_eq!(Request::Write(3, vec![]).needed(), 10);
+        assert_eq!(Request::Write(2, vec![u32::MAX]).needed(), 706);
+        assert_eq!(Request::Convert(vec![], 2).needed(), 10);
         let of_points = |count| {
             let points = vec![0; count];
             let survey = Survey { points, ..case_1() };
@@ -253,6 +282,22 @@ mod tests {
         let needs = [0, 5, 7, 132, 134, 1_000].map(of_points);
         assert_eq!(needs, [5, 5, 10, 325, 325, 325]);
         assert_eq!(Request::Height(vec![], 0).needed(), 1);
+    }
+
+    /// Sheets of three curves have 42 bytes in edition 1, 43 in edition 2.
+    #[test]
+    fn needs_of_both_editions() {
+        let line = Line::new(40, 8, 0, &[1; 4], &[Curve::new(1, 20_000, 0); 3]);
+        for (edition, needed) in [(FIRST, [42, 43, 42]), (SECOND, [43, 42, 43])] {
+            let sheet = sheet_in(edition, &line);
+            let write = Request::Write(edition.number, line.numbers());
+            let requests = [
+                Request::Rewrite(sheet.clone()),
+                Request::other_edition(sheet),
+                write,
+            ];
+            assert_eq!(requests.map(|request| request.needed()), needed);
+        }
     }
 
     #[test]

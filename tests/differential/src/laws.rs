@@ -3,6 +3,7 @@
 //! nothing, and a line that is answered passes the other calls.
 
 use crate::side::{line_of, Answer, Side};
+use reference::edition::SECOND;
 use reference::line::LEFT;
 use reference::points::GREATEST_COORDINATE;
 use reference::samples::surveys::Survey;
@@ -47,10 +48,11 @@ fn in_corners(survey: &Survey) -> [Survey; 2] {
     ]
 }
 
-/// What `check` answers to the sheet that `write` makes of the line.
+/// What `check` answers to the sheet of edition 2, which holds every start, that
+/// `write` makes of the line.
 fn checked_count(library: &dyn Side, line: &[u32]) -> Answer {
     let mut sheet = [0; pokyandi::SHEET_BYTES];
-    let length = library.write(line, &mut sheet)?;
+    let length = library.write(SECOND.number, line, &mut sheet)?;
     library.check(&sheet[..length])
 }
 

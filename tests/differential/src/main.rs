@@ -6,6 +6,7 @@
 mod accuracy;
 mod arguments;
 mod compare;
+mod conversion_laws;
 mod height_laws;
 mod input;
 mod inputs;

@@ -80,13 +80,19 @@ fn request_rows(request: &Request) -> Vec<String> {
         | Request::Check(sheet)
         | Request::Rewrite(sheet)
         | Request::Text(sheet)
-        | Request::Read(sheet) => sheet_rows(sheet),
+        | Request::Read(sheet)
+        | Request::Edition(sheet) => sheet_rows(sheet),
+        Request::Convert(sheet, asked) => {
+            let mut rows = sheet_rows(sheet);
+            rows.push(row("asked for", asked));
+            rows
+        }
         Request::Peg(sheet, station) => {
             let mut rows = sheet_rows(sheet);
             rows.push(row("station", station));
             rows
         }
-        Request::Write(line) => vec![row("line", joined(line))],
+        Request::Write(edition, line) => vec![row("edition", edition), row("line", joined(line))],
         Request::FromPoints(survey) => survey_rows(survey),
         Request::Height(profile, station) => {
             vec![row("profile", joined(profile)), row("station", station)]
@@ -119,10 +125,13 @@ fn line_row(line: Result<Line, Refusal>) -> String {
     }
 }
 
-/// The sheet in hexadecimal, and its line.
+/// The sheet in hexadecimal, its edition where it is read, and its line.
 pub fn sheet_rows(sheet: &[u8]) -> Vec<String> {
-    let line = line_row(sheet::read(sheet));
-    vec![row("sheet", digits_of(sheet)), line]
+    let mut rows = vec![row("sheet", digits_of(sheet))];
+    let edition = sheet::edition_of(sheet).ok();
+    rows.extend(edition.map(|edition| row("edition", edition.number)));
+    rows.push(line_row(sheet::line_of(sheet)));
+    rows
 }
 
 fn comparison_rows(comparison: &Comparison) -> Vec<String> {
@@ -153,7 +162,10 @@ mod tests {
     use super::*;
     use crate::input::{Call, Room};
     use crate::side::Library;
-    use crate::spoilt::{Spoilt, HEIGHT_FAULTS, PEG_FAULTS, POINT_FAULTS};
+    use crate::spoilt::{
+        Spoilt, CONVERT_FAULTS, EDITION_FAULTS, HEIGHT_FAULTS, PEG_FAULTS, POINT_FAULTS,
+        WRITE_FAULTS,
+    };
     use reference::refusal::refuse;
 
     #[test]
@@ -190,13 +202,17 @@ mod tests {
         };
         let inputs = Inputs::of(1);
         let input = Input {
-            request: Request::Write(vec![0, 70, 8, 0, 500_000]),
+            request: Request::Write(2, vec![0, 70, 8, 0, 500_000]),
             room: Room::Needed(0),
             pattern: 0,
         };
         let result = compare_caught(&library, &input);
         let found = report(&inputs, u64::MAX, &input, &result);
-        assert!(found.contains("call         write\nline         0 70 8 0 500000\n"));
+        let line = "edition      2\nline         0 70 8 0 500000\n";
+        assert!(
+            found.contains(&format!("call         write\n{line}")),
+            "{found}"
+        );
         assert!(found.ends_with("do not undo each other\n"), "{found}");
         assert!(!found.contains("\nname "), "{found}");
     }
@@ -269,6 +285,40 @@ mod tests {
                 assert!(found.contains("\nprofile      "), "{found}");
                 assert!(found.contains("\nstation      "), "{found}");
             }
+        }
+    }
+
+    /// Each fault of editions, of the writer and of the converter likewise.
+    #[test]
+    fn faulty_editions_are_reported() {
+        let check = |fault: &str, call: Call, library: Spoilt| {
+            let inputs = Inputs::of(1);
+            for indexes in indexes_of(&inputs, call) {
+                let found = first_report(&inputs, &indexes, &library).expect(fault);
+                let name = format!("\ncall         {}\n", call.name());
+                assert!(found.contains(&name), "{found}");
+            }
+        };
+        for (fault, edition) in EDITION_FAULTS {
+            let library = Spoilt {
+                edition,
+                ..Spoilt::NOT
+            };
+            check(fault, Call::Edition, library);
+        }
+        for (fault, write) in WRITE_FAULTS {
+            let library = Spoilt {
+                write,
+                ..Spoilt::NOT
+            };
+            check(fault, Call::Write, library);
+        }
+        for (fault, convert) in CONVERT_FAULTS {
+            let library = Spoilt {
+                convert,
+                ..Spoilt::NOT
+            };
+            check(fault, Call::Convert, library);
         }
     }
 

@@ -25,7 +25,10 @@ pub trait Side {
     fn elements(&self, curve: Curve, numbers: &mut [u64]) -> Answer;
     fn text(&self, sheet: &[u8], text: &mut [u8]) -> Answer;
     fn read(&self, sheet: &[u8], line: &mut [u32]) -> Answer;
-    fn write(&self, line: &[u32], bytes: &mut [u8]) -> Answer;
+    fn write(&self, edition: u32, line: &[u32], bytes: &mut [u8]) -> Answer;
+    /// The edition as a count.
+    fn edition(&self, sheet: &[u8]) -> Answer;
+    fn convert(&self, sheet: &[u8], edition: u32, bytes: &mut [u8]) -> Answer;
     fn peg(&self, sheet: &[u8], station: u64, numbers: &mut [i64]) -> Answer;
     fn line_from_points(
         &self,
@@ -65,8 +68,16 @@ impl Side for Library {
         answer_of(pokyandi::read(sheet, line))
     }
 
-    fn write(&self, line: &[u32], bytes: &mut [u8]) -> Answer {
-        answer_of(pokyandi::write(line, bytes))
+    fn write(&self, edition: u32, line: &[u32], bytes: &mut [u8]) -> Answer {
+        answer_of(pokyandi::write(edition, line, bytes))
+    }
+
+    fn edition(&self, sheet: &[u8]) -> Answer {
+        answer_of(pokyandi::edition(sheet).map(|edition| edition as usize))
+    }
+
+    fn convert(&self, sheet: &[u8], edition: u32, bytes: &mut [u8]) -> Answer {
+        answer_of(pokyandi::convert(sheet, edition, bytes))
     }
 
     fn peg(&self, sheet: &[u8], station: u64, numbers: &mut [i64]) -> Answer {
@@ -101,7 +112,7 @@ pub struct Reference;
 
 impl Side for Reference {
     fn stations(&self, sheet: &[u8], row: &mut [u64]) -> Answer {
-        stations(&sheet::read(sheet)?, row)
+        stations(&sheet::line_of(sheet)?, row)
     }
 
     fn check(&self, sheet: &[u8]) -> Answer {
@@ -109,7 +120,7 @@ impl Side for Reference {
     }
 
     fn rewrite(&self, sheet: &[u8], bytes: &mut [u8]) -> Answer {
-        sheet::write(&sheet::read(sheet)?, bytes)
+        sheet::rewrite(sheet, bytes)
     }
 
     fn elements(&self, Curve { a, r, l }: Curve, numbers: &mut [u64]) -> Answer {
@@ -128,12 +139,20 @@ impl Side for Reference {
         line_numbers::read(sheet, line)
     }
 
-    fn write(&self, line: &[u32], bytes: &mut [u8]) -> Answer {
-        line_numbers::write(line, bytes)
+    fn write(&self, edition: u32, line: &[u32], bytes: &mut [u8]) -> Answer {
+        line_numbers::write(edition, line, bytes)
+    }
+
+    fn edition(&self, sheet: &[u8]) -> Answer {
+        Ok(sheet::edition_of(sheet)?.number as usize)
+    }
+
+    fn convert(&self, sheet: &[u8], edition: u32, bytes: &mut [u8]) -> Answer {
+        sheet::convert(sheet, edition, bytes)
     }
 
     fn peg(&self, sheet: &[u8], station: u64, numbers: &mut [i64]) -> Answer {
-        peg(&sheet::read(sheet)?, station, numbers)
+        peg(&sheet::line_of(sheet)?, station, numbers)
     }
 
     fn line_from_points(
@@ -163,7 +182,7 @@ pub fn text_of(sheet: &[u8]) -> String {
 /// The elements of a sheet's line, from its start to its end; none where the
 /// sheet is refused.
 pub fn stretches_of(sheet: &[u8]) -> Vec<Stretch> {
-    let stretches = sheet::read(sheet).and_then(|line| stretches(&line));
+    let stretches = sheet::line_of(sheet).and_then(|line| stretches(&line));
     stretches.unwrap_or_default()
 }
 
@@ -189,12 +208,16 @@ pub fn height_of(side: &dyn Side, profile: &[i64], station: u64) -> Result<i64, 
 #[cfg(test)]
 mod tests {
     use super::*;
+    use reference::edition::{EDITIONS, FIRST, SECOND};
     use reference::line::Line;
     use reference::refusal::refuse;
+    use reference::samples::call::Callee::Writer;
+    use reference::samples::call_edges::road_for;
     use reference::samples::dice::Dice;
     use reference::samples::point_edges::case_1;
-    use reference::samples::roads::road;
-    use reference::samples::sheet_fields::{sheet_of, COUNT, CROSSFALL, EDITION, SPEED, START};
+    use reference::samples::sheet_fields::{
+        sheet_in, sheet_of, start, COUNT, CROSSFALL, EDITION, SPEED,
+    };
 
     /// Case 1 of document 01.
     fn check_case_1(side: &dyn Side) {
@@ -248,11 +271,30 @@ mod tests {
         assert_eq!(side.read(&sheet, &mut numbers[..9]), refuse(16, 0));
 
         let mut bytes = [7; 22];
-        assert_eq!(side.write(&line, &mut bytes), Ok(21));
+        assert_eq!(side.write(1, &line, &mut bytes), Ok(21));
         assert_eq!(bytes[..21], sheet);
         assert_eq!(bytes[21], 7);
-        assert_eq!(side.write(&line, &mut bytes[..20]), refuse(16, 0));
-        assert_eq!(side.write(&line[..9], &mut bytes), refuse(3, 0));
+        assert_eq!(side.write(1, &line, &mut bytes[..20]), refuse(16, 0));
+        assert_eq!(side.write(1, &line[..9], &mut bytes), refuse(3, 0));
+        assert_eq!(side.write(3, &line[..9], &mut bytes), refuse(2, 0));
+
+        let mut second = [7; 22];
+        assert_eq!(side.convert(&sheet, 2, &mut second), Ok(21));
+        assert_eq!(second[..21], sheet_in(SECOND, &Line::case_1()));
+        assert_eq!(second[21], 7);
+        assert_eq!(side.convert(&sheet, 2, &mut second[..20]), refuse(16, 0));
+        assert_eq!(side.convert(&sheet, 1, &mut bytes), refuse(2, 0));
+        assert_eq!(
+            [&sheet, &second[..21]].map(|sheet| side.edition(sheet)),
+            [Ok(1), Ok(2)]
+        );
+        assert_eq!(side.edition(&sheet[..20]), refuse(1, 0));
+        assert_eq!(side.write(2, &line, &mut bytes), Ok(21));
+        assert_eq!(bytes[..21], second[..21]);
+        assert_eq!(side.convert(&second[..21], 1, &mut bytes), Ok(21));
+        assert_eq!(bytes[..21], sheet);
+        let far = start(SECOND).with(&second[..21], 200_000_001);
+        assert_eq!(side.convert(&far, 1, &mut bytes), refuse(24, 0));
 
         let [_, _, cs, _, end] = stations;
         let mut peg = [7; 6];
@@ -308,20 +350,23 @@ mod tests {
     fn text_of_sheets_that_are_longer_than_any() {
         let mut dice = Dice::new(1);
         for n in [0, 1, 63, 64] {
-            let road = sheet_of(&road(&mut dice, n));
-            let headings = [
-                road.clone(),
-                EDITION.with(&road, 2),
-                COUNT.with(&road, 65),
-                SPEED.with(&road, 45),
-                CROSSFALL.with(&road, 1),
-                START.with(&road, 200_000_001),
-            ];
-            for (mut sheet, refusal) in headings.into_iter().zip([7, 2, 3, 4, 5, 6]) {
-                for length in [707, 708, 3_000] {
-                    sheet.resize(length, 0xA5);
-                    assert_eq!(text_of(&sheet), format!("REFUSED {refusal} 0\n"));
-                    assert_eq!(text_of(&sheet), report(&sheet));
+            let road = road_for(&mut dice, Writer(FIRST), n);
+            for edition in EDITIONS {
+                let road = sheet_in(edition, &road);
+                let headings = [
+                    road.clone(),
+                    EDITION.with(&road, 3),
+                    COUNT.with(&road, 65),
+                    SPEED.with(&road, 45),
+                    CROSSFALL.with(&road, 1),
+                    start(edition).with(&road, edition.greatest_start + 1),
+                ];
+                for (mut sheet, refusal) in headings.into_iter().zip([7, 2, 3, 4, 5, 6]) {
+                    for length in [707, 708, 3_000] {
+                        sheet.resize(length, 0xA5);
+                        assert_eq!(text_of(&sheet), format!("REFUSED {refusal} 0\n"));
+                        assert_eq!(text_of(&sheet), report(&sheet));
+                    }
                 }
             }
         }

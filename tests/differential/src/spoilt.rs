@@ -1,14 +1,17 @@
 //! A side for tests of the comparison: the reference, its answers and what it
-//! wrote changed; and faults of pegs, of lines from coordinates and of heights.
+//! wrote changed; and faults of pegs, of lines from coordinates, of heights and of
+//! editions.
 
 use crate::side::{stretches_of, Answer, Reference, Side};
 use reference::curve::Curve;
-use reference::line::LEFT;
+use reference::edition::{Edition, FIRST};
+use reference::line::{Line, LEFT};
 use reference::points::{reached, Heading, GREATEST_COORDINATE, GREATEST_TURN};
 use reference::profile::{Profile, STATIONS};
 use reference::refusal::{refuse, Refusal};
 use reference::road_tables::DesignSpeed;
 use reference::samples::profiles::twice_factor;
+use reference::samples::sheet_fields::{edition_said, EDITION};
 use reference::sheet;
 use reference::sight::stopping_distance;
 
@@ -23,6 +26,18 @@ pub type PointsCall = fn(Heading, &[i64], &[u32], &mut [u32]) -> Answer;
 
 /// How a height is worked out.
 pub type HeightCall = fn(&[i64], u64, &mut [i64]) -> Answer;
+
+/// How the text of a sheet is made.
+pub type TextCall = fn(&[u8], &mut [u8]) -> Answer;
+
+/// How the edition of a sheet is found.
+pub type EditionCall = fn(&[u8]) -> Answer;
+
+/// How a line is written in an edition.
+pub type WriteCall = fn(u32, &[u32], &mut [u8]) -> Answer;
+
+/// How a sheet is brought to an edition.
+pub type ConvertCall = fn(&[u8], u32, &mut [u8]) -> Answer;
 
 pub struct Spoilt {
     /// Of calls that are lent a row or the numbers of elements.
@@ -39,6 +54,13 @@ pub struct Spoilt {
     pub points: PointsCall,
     /// The same of the height.
     pub height: HeightCall,
+    /// The same of the text, of the sheet that is written and of the one that is
+    /// converted.
+    pub text: TextCall,
+    pub write: WriteCall,
+    pub convert: ConvertCall,
+    /// The edition.
+    pub edition: EditionCall,
 }
 
 impl Spoilt {
@@ -53,6 +75,10 @@ impl Spoilt {
             Reference.line_from_points(heading, points, curves, line)
         },
         height: |profile, station, numbers| Reference.height(profile, station, numbers),
+        text: |sheet, text| Reference.text(sheet, text),
+        write: |edition, line, bytes| Reference.write(edition, line, bytes),
+        convert: |sheet, edition, bytes| Reference.convert(sheet, edition, bytes),
+        edition: |sheet| Reference.edition(sheet),
     };
 }
 
@@ -74,15 +100,23 @@ impl Side for Spoilt {
     }
 
     fn text(&self, sheet: &[u8], text: &mut [u8]) -> Answer {
-        (self.bytes)(Reference.text(sheet, text), text)
+        (self.bytes)((self.text)(sheet, text), text)
     }
 
     fn read(&self, sheet: &[u8], line: &mut [u32]) -> Answer {
         (self.line)(Reference.read(sheet, line), line)
     }
 
-    fn write(&self, line: &[u32], bytes: &mut [u8]) -> Answer {
-        (self.bytes)(Reference.write(line, bytes), bytes)
+    fn write(&self, edition: u32, line: &[u32], bytes: &mut [u8]) -> Answer {
+        (self.bytes)((self.write)(edition, line, bytes), bytes)
+    }
+
+    fn edition(&self, sheet: &[u8]) -> Answer {
+        (self.edition)(sheet)
+    }
+
+    fn convert(&self, sheet: &[u8], edition: u32, bytes: &mut [u8]) -> Answer {
+        (self.bytes)((self.convert)(sheet, edition, bytes), bytes)
     }
 
     fn peg(&self, sheet: &[u8], station: u64, numbers: &mut [i64]) -> Answer {
@@ -112,7 +146,7 @@ const Y: usize = 4;
 const SPIRAL_OUT: i64 = 3;
 
 /// Faults of pegs.
-pub const PEG_FAULTS: [(&str, PegCall); 7] = [
+pub const PEG_FAULTS: [(&str, PegCall); 8] = [
     ("y is not negated on a left curve", without_sides),
     ("the length on the spiral out runs from CS", out_from_cs),
     ("a shared station is the former element's", of_the_former),
@@ -120,7 +154,25 @@ pub const PEG_FAULTS: [(&str, PegCall); 7] = [
     ("the end is refused", without_end),
     ("the last straight never ends", without_refusal_behind),
     ("16 comes before 17", small_buffer_first),
+    ("6 for a start beyond edition 1", near_starts_only),
 ];
+
+fn near_starts_only(sheet: &[u8], station: u64, numbers: &mut [i64]) -> Answer {
+    if start_of(sheet).is_some_and(is_far) {
+        return refuse(6, 0);
+    }
+    Reference.peg(sheet, station, numbers)
+}
+
+/// The start of a sheet that is read.
+fn start_of(sheet: &[u8]) -> Option<u32> {
+    Some(sheet::line_of(sheet).ok()?.start)
+}
+
+/// Whether only edition 2 holds a start.
+fn is_far(start: u32) -> bool {
+    start > FIRST.greatest_start
+}
 
 fn without_sides(sheet: &[u8], station: u64, numbers: &mut [i64]) -> Answer {
     let answer = Reference.peg(sheet, station, numbers)?;
@@ -131,7 +183,7 @@ fn without_sides(sheet: &[u8], station: u64, numbers: &mut [i64]) -> Answer {
 fn out_from_cs(sheet: &[u8], station: u64, numbers: &mut [i64]) -> Answer {
     let answer = Reference.peg(sheet, station, numbers)?;
     if numbers[KIND] == SPIRAL_OUT {
-        let curve = sheet::read(sheet)?.curve(numbers[NUMBER] as usize);
+        let curve = sheet::line_of(sheet)?.curve(numbers[NUMBER] as usize);
         numbers[LENGTH] = 1_000 * i64::from(curve.l) - numbers[LENGTH];
     }
     Ok(answer)
@@ -176,7 +228,7 @@ fn small_buffer_first(sheet: &[u8], station: u64, numbers: &mut [i64]) -> Answer
 }
 
 /// Faults of lines from coordinates.
-pub const POINT_FAULTS: [(&str, PointsCall); 12] = [
+pub const POINT_FAULTS: [(&str, PointsCall); 13] = [
     ("the side is the other one", other_sides),
     ("a distance is rounded up", rounded_up),
     ("a second with equal products is not reached", without_ties),
@@ -192,7 +244,23 @@ pub const POINT_FAULTS: [(&str, PointsCall); 12] = [
     ),
     ("4 comes before 20 and 19", speed_first),
     ("16 comes before 20 and 19", room_first),
+    ("6 for a start beyond edition 1", from_near_starts_only),
 ];
+
+fn from_near_starts_only(
+    heading: Heading,
+    points: &[i64],
+    curves: &[u32],
+    line: &mut [u32],
+) -> Answer {
+    let before = line.to_vec();
+    let count = Reference.line_from_points(heading, points, curves, line)?;
+    if is_far(heading.start) {
+        line.copy_from_slice(&before);
+        return refuse(6, 0);
+    }
+    Ok(count)
+}
 
 fn other_sides(heading: Heading, points: &[i64], curves: &[u32], line: &mut [u32]) -> Answer {
     changed_curves(heading, points, curves, line, |_, _, side, _| {
@@ -602,4 +670,212 @@ fn room_before_station(profile: &[i64], station: u64, numbers: &mut [i64]) -> An
     height_refused_otherwise(profile, station, numbers, |refusal, _| {
         (refusal.number == 17 && room == 0).then_some(refuse(16, 0))
     })
+}
+
+/// Faults of editions.
+pub const EDITION_FAULTS: [(&str, EditionCall); 4] = [
+    (
+        "the edition of a refused sheet is told",
+        edition_before_checks,
+    ),
+    ("every sheet has edition 1", always_the_first),
+    ("6 for a start beyond edition 1", far_edition_refused),
+    ("edition 3 is known", third_edition),
+];
+
+fn edition_before_checks(sheet: &[u8]) -> Answer {
+    match sheet.len() {
+        0..7 => refuse(1, 0),
+        _ => Ok(Edition::of(EDITION.value(sheet))?.number as usize),
+    }
+}
+
+fn always_the_first(sheet: &[u8]) -> Answer {
+    Reference.edition(sheet).map(|_| 1)
+}
+
+fn far_edition_refused(sheet: &[u8]) -> Answer {
+    if start_of(sheet).is_some_and(is_far) {
+        return refuse(6, 0);
+    }
+    Reference.edition(sheet)
+}
+
+fn third_edition(sheet: &[u8]) -> Answer {
+    match sheet.first() {
+        Some(byte) if byte >> 4 == 3 => {
+            Reference.edition(&EDITION.with(sheet, 2))?;
+            Ok(3)
+        }
+        _ => Reference.edition(sheet),
+    }
+}
+
+/// Faults of the writer.
+pub const WRITE_FAULTS: [(&str, WriteCall); 7] = [
+    ("2 comes after the line's refusals", edition_last),
+    ("3 for other counts comes before 2", counts_first),
+    ("every sheet has edition 1", written_in_the_first),
+    (
+        "a start too far for edition 1 is cut to its bits",
+        cut_starts,
+    ),
+    (
+        "6 for a start beyond edition 1 in edition 2",
+        far_lines_refused,
+    ),
+    ("6 for the greatest start", greatest_start_refused),
+    ("the edition is cut to four bits", cut_edition),
+];
+
+fn edition_last(edition: u32, line: &[u32], bytes: &mut [u8]) -> Answer {
+    let other = Reference.write(2, line, &mut vec![0; bytes.len()]);
+    match (Edition::of(edition), other) {
+        (Err(_), Err(refusal)) => Err(refusal),
+        _ => Reference.write(edition, line, bytes),
+    }
+}
+
+fn counts_first(edition: u32, line: &[u32], bytes: &mut [u8]) -> Answer {
+    Line::of_numbers(line)?;
+    Reference.write(edition, line, bytes)
+}
+
+fn written_in_the_first(edition: u32, line: &[u32], bytes: &mut [u8]) -> Answer {
+    Edition::of(edition)?;
+    Reference.write(1, line, bytes)
+}
+
+/// Where the start stands among the numbers of a line.
+const START: usize = 3;
+
+fn cut_starts(edition: u32, line: &[u32], bytes: &mut [u8]) -> Answer {
+    let mut line = line.to_vec();
+    if let (1, Some(start)) = (edition, line.get_mut(START)) {
+        *start %= 1 << FIRST.start_bits;
+    }
+    Reference.write(edition, &line, bytes)
+}
+
+fn far_lines_refused(edition: u32, line: &[u32], bytes: &mut [u8]) -> Answer {
+    let before = bytes.to_vec();
+    let count = Reference.write(edition, line, bytes)?;
+    if is_far(line[START]) {
+        bytes.copy_from_slice(&before);
+        return refuse(6, 0);
+    }
+    Ok(count)
+}
+
+fn greatest_start_refused(edition: u32, line: &[u32], bytes: &mut [u8]) -> Answer {
+    let before = bytes.to_vec();
+    let count = Reference.write(edition, line, bytes)?;
+    if line[START] == Edition::of(edition)?.greatest_start {
+        bytes.copy_from_slice(&before);
+        return refuse(6, 0);
+    }
+    Ok(count)
+}
+
+fn cut_edition(edition: u32, line: &[u32], bytes: &mut [u8]) -> Answer {
+    Reference.write(edition % 16, line, bytes)
+}
+
+/// Faults of the converter.
+pub const CONVERT_FAULTS: [(&str, ConvertCall); 10] = [
+    ("the own edition is taken for the other", own_edition),
+    ("only the number is changed", only_the_number),
+    ("the edition is cut to four bits", asked_in_four_bits),
+    ("24 for a start of 200,000,000", near_start_stays),
+    ("a far start is cut to edition 1's bits", far_start_cut),
+    ("6 in the place of 24", start_in_the_place_of_far),
+    ("2 comes before the reader's refusals", asked_first),
+    ("24 comes before 2", far_first),
+    ("16 comes before 24", room_before_far),
+    ("16 counts the sheet's own length", room_of_the_own),
+];
+
+fn own_edition(sheet: &[u8], asked: u32, bytes: &mut [u8]) -> Answer {
+    if Reference.edition(sheet)? == asked as usize {
+        return Reference.rewrite(sheet, bytes);
+    }
+    Reference.convert(sheet, asked, bytes)
+}
+
+fn only_the_number(sheet: &[u8], asked: u32, bytes: &mut [u8]) -> Answer {
+    let count = Reference.convert(sheet, asked, bytes)?;
+    let front = count.min(sheet.len());
+    bytes[..front].copy_from_slice(&sheet[..front]);
+    EDITION.put(bytes, asked);
+    Ok(count)
+}
+
+fn asked_in_four_bits(sheet: &[u8], asked: u32, bytes: &mut [u8]) -> Answer {
+    Reference.convert(sheet, asked % 16, bytes)
+}
+
+fn near_start_stays(sheet: &[u8], asked: u32, bytes: &mut [u8]) -> Answer {
+    let before = bytes.to_vec();
+    let count = Reference.convert(sheet, asked, bytes)?;
+    if asked == 1 && start_of(sheet) == Some(FIRST.greatest_start) {
+        bytes.copy_from_slice(&before);
+        return refuse(24, 0);
+    }
+    Ok(count)
+}
+
+/// The reference's answer, another one for some of its refusals.
+fn converted_otherwise(
+    sheet: &[u8],
+    asked: u32,
+    bytes: &mut [u8],
+    other: impl Fn(Refusal, &mut [u8]) -> Option<Answer>,
+) -> Answer {
+    let answer = Reference.convert(sheet, asked, bytes);
+    answer.or_else(|refusal| other(refusal, bytes).unwrap_or(Err(refusal)))
+}
+
+fn far_start_cut(sheet: &[u8], asked: u32, bytes: &mut [u8]) -> Answer {
+    converted_otherwise(sheet, asked, bytes, |refusal, bytes| {
+        let mut line = sheet::line_of(sheet).ok()?;
+        line.start %= 1 << FIRST.start_bits;
+        (refusal.number == 24).then(|| sheet::write(1, &line, bytes))
+    })
+}
+
+fn start_in_the_place_of_far(sheet: &[u8], asked: u32, bytes: &mut [u8]) -> Answer {
+    converted_otherwise(sheet, asked, bytes, |refusal, _| {
+        (refusal.number == 24).then_some(refuse(6, 0))
+    })
+}
+
+fn asked_first(sheet: &[u8], asked: u32, bytes: &mut [u8]) -> Answer {
+    converted_otherwise(sheet, asked, bytes, |_, _| {
+        let other = sheet.len() >= 7 && asked == edition_said(sheet).other().number;
+        (!other).then_some(refuse(2, 0))
+    })
+}
+
+fn far_first(sheet: &[u8], asked: u32, bytes: &mut [u8]) -> Answer {
+    converted_otherwise(sheet, asked, bytes, |refusal, _| {
+        let far = start_of(sheet).is_some_and(is_far);
+        (refusal.number == 2 && far).then_some(refuse(24, 0))
+    })
+}
+
+fn room_before_far(sheet: &[u8], asked: u32, bytes: &mut [u8]) -> Answer {
+    converted_otherwise(sheet, asked, bytes, |refusal, bytes| {
+        let small = bytes.len() < sheet.len() - 1;
+        (refusal.number == 24 && small).then_some(refuse(16, 0))
+    })
+}
+
+fn room_of_the_own(sheet: &[u8], asked: u32, bytes: &mut [u8]) -> Answer {
+    let before = bytes.to_vec();
+    let count = Reference.convert(sheet, asked, bytes)?;
+    if bytes.len() < sheet.len() {
+        bytes.copy_from_slice(&before);
+        return refuse(16, 0);
+    }
+    Ok(count)
 }

@@ -4,8 +4,8 @@ use crate::compare::Comparison;
 use crate::input::{Call, Input};
 use reference::line::MOST_CURVES;
 
-/// Accepted, and the refusals 1 to 23.
-const OUTCOMES: usize = 24;
+/// Accepted, and the refusals 1 to 24.
+const OUTCOMES: usize = 25;
 
 /// The last refusal that a text tells.
 const MOST_TOLD: usize = 15;
@@ -177,8 +177,8 @@ mod tests {
         add(&mut tally, Request::Text(full), Ok(13), Some(8));
         let mut line = vec![1; 325];
         line[0] = 64;
-        add(&mut tally, Request::Write(line.clone()), Ok(706), None);
-        add(&mut tally, Request::Write(line), refuse(8, 3), None);
+        add(&mut tally, Request::Write(1, line.clone()), Ok(706), None);
+        add(&mut tally, Request::Write(2, line), refuse(8, 3), None);
         let peg = Request::Peg(vec![0x18, 0x00], 0);
         add(&mut tally, peg.clone(), Ok(5), None);
         add(&mut tally, peg, refuse(17, 0), None);
@@ -188,20 +188,27 @@ mod tests {
         let height = Request::Height(vec![70, 0, 0, 0], 0);
         add(&mut tally, height.clone(), Ok(1), None);
         add(&mut tally, height, refuse(23, 2), None);
+        let full = vec![0x28, 0x00];
+        add(&mut tally, Request::Edition(full.clone()), Ok(2), None);
+        let convert = Request::Convert(full, 1);
+        add(&mut tally, convert.clone(), Ok(706), None);
+        add(&mut tally, convert, refuse(24, 0), None);
         for (name, expected) in [
-            ("accepted ", "1 0 0 0 2 0 1 1 1 1 1"),
-            ("accepted, 64", "1 0 0 - 1 0 1 1 1 -"),
-            ("refused 8", "0 0 0 - - 0 1 0 0 - 1"),
-            ("refused 7", "0 0 0 - - 0 - 0 - - 0"),
-            ("refused 16", "1 - 0 0 0 0 0 0 0 0 -"),
-            ("refused 17", "- - - - - - - 1 - 0 -"),
-            ("refused 19", "- - - - - - - - 1 - -"),
-            ("refused 23", "- - - - - - - - - 1 -"),
-            ("all", "2 0 0 0 2 0 2 2 2 2 2"),
+            ("accepted ", "1 0 0 0 2 0 1 1 1 1 1 1 1"),
+            ("accepted, 64", "1 0 0 - 1 0 1 1 1 - 1 1"),
+            ("refused 2 ", "0 0 0 - - 0 0 0 - - 0 0 0"),
+            ("refused 8", "0 0 0 - - 0 1 0 0 - 0 0 1"),
+            ("refused 7", "0 0 0 - - 0 - 0 - - 0 0 0"),
+            ("refused 16", "1 - 0 0 0 0 0 0 0 0 - 0 -"),
+            ("refused 17", "- - - - - - - 1 - 0 - - -"),
+            ("refused 19", "- - - - - - - - 1 - - - -"),
+            ("refused 23", "- - - - - - - - - 1 - - -"),
+            ("refused 24", "- - - - - - - - - - - 1 -"),
+            ("all", "2 0 0 0 2 0 2 2 2 2 1 2 2"),
         ] {
             assert_eq!(columns(&tally, name).join(" "), expected);
         }
-        assert_eq!(tally.total(), 12);
+        assert_eq!(tally.total(), 15);
     }
 
     #[test]
@@ -222,6 +229,8 @@ mod tests {
         tally.answered[Call::FromPoints as usize][20] = 0;
         tally.answered[Call::Height as usize][5] = 0;
         tally.answered[Call::Height as usize][21] = 0;
+        tally.answered[Call::Edition as usize][16] = 0;
+        tally.answered[Call::Convert as usize][24] = 0;
         tally.told[3] = 0;
         tally.told[16] = 0;
         tally.told[17] = 0;
@@ -234,6 +243,7 @@ mod tests {
                 "peg refused 17",
                 "points refused 20",
                 "height refused 21",
+                "convert refused 24",
                 "text telling refused 3"
             ]
         );

@@ -2,6 +2,7 @@
 
 use super::sheets::curve_at_ends;
 use reference::curve::Curve;
+use reference::edition::FIRST;
 use reference::elements::{GREATEST_DEFLECTION, GREATEST_RADIUS, GREATEST_SPIRAL, SMALLEST_RADIUS};
 use reference::samples::curves::random_curve;
 use reference::samples::dice::Dice;
@@ -22,7 +23,7 @@ pub fn any_curve(dice: &mut Dice) -> Curve {
 }
 
 fn curve_in_range(dice: &mut Dice) -> Curve {
-    line_in_range(dice, 1).curve(1)
+    line_in_range(dice, FIRST, 1).curve(1)
 }
 
 /// A curve in range, or next to it, whose arc is near the least.

@@ -2,14 +2,15 @@
 //! bits and bytes, other lengths.
 
 use crate::input::curves_of;
+use reference::edition::{Edition, EDITIONS};
 use reference::elements::{GREATEST_DEFLECTION, GREATEST_RADIUS, SMALLEST_RADIUS};
-use reference::line::{CROSSFALLS, GREATEST_DISTANCE, GREATEST_START, MOST_CURVES};
+use reference::line::{CROSSFALLS, GREATEST_DISTANCE, MOST_CURVES};
 use reference::road_tables::SPEEDS;
 use reference::samples::dice::Dice;
 use reference::samples::limits::greatest_spiral;
 use reference::samples::sheet_fields::{
-    deflection, distance, fill, flip, radius, side, spiral, Field, COUNT, CROSSFALL, EDITION,
-    SPEED, START,
+    deflection, distance, edition_said, fill, flip, radius, side, spiral, start, Field, COUNT,
+    CROSSFALL, EDITION, SPEED,
 };
 
 /// Damages the sheet in one way. Nothing changes where a sheet is too short for
@@ -51,41 +52,49 @@ impl Ranged {
 /// Any field of the sheet, those of the heading in one case of three.
 fn any_field(dice: &mut Dice, sheet: &[u8]) -> Ranged {
     let n = curves_of(sheet);
+    let edition = edition_said(sheet);
     if dice.once_in(3) {
-        heading_field(dice)
+        heading_field(dice, edition)
     } else if n == 0 || dice.once_in(4) {
-        Ranged::new(distance(dice.index(0, n)), 1, GREATEST_DISTANCE)
+        let i = dice.index(0, n);
+        Ranged::new(distance(edition, i), 1, GREATEST_DISTANCE)
     } else {
         let i = dice.index(1, n);
         curve_field(dice, sheet, i)
     }
 }
 
-fn heading_field(dice: &mut Dice) -> Ranged {
+/// A field of the heading; of the start, either edition's range.
+fn heading_field(dice: &mut Dice, edition: Edition) -> Ranged {
     let v = dice.one_of(&SPEEDS).v;
     match dice.between(0, 4) {
-        0 => Ranged::new(EDITION, 1, 1),
+        0 => Ranged::new(EDITION, 1, 2),
         1 => Ranged::new(COUNT, 0, MOST_CURVES as u32),
         // Every design speed is a range of its own.
         2 => Ranged::new(SPEED, v, v),
         3 => Ranged::new(CROSSFALL, *CROSSFALLS.start(), *CROSSFALLS.end()),
-        _ => Ranged::new(START, 0, GREATEST_START),
+        _ => {
+            let greatest_start = dice.one_of(&EDITIONS).greatest_start;
+            Ranged::new(start(edition), 0, greatest_start)
+        }
     }
 }
 
 /// A field of curve i.
 fn curve_field(dice: &mut Dice, sheet: &[u8], i: usize) -> Ranged {
+    let edition = edition_said(sheet);
     match dice.between(0, 6) {
-        0 => Ranged::new(side(i), 0, 1),
-        1..=2 => Ranged::new(deflection(i), 1, GREATEST_DEFLECTION),
-        3..=4 => Ranged::new(radius(i), SMALLEST_RADIUS, GREATEST_RADIUS),
-        _ => Ranged::new(spiral(i), 0, greatest_spiral_of(sheet, i)),
+        0 => Ranged::new(side(edition, i), 0, 1),
+        1..=2 => Ranged::new(deflection(edition, i), 1, GREATEST_DEFLECTION),
+        3..=4 => Ranged::new(radius(edition, i), SMALLEST_RADIUS, GREATEST_RADIUS),
+        _ => Ranged::new(spiral(edition, i), 0, greatest_spiral_of(sheet, i)),
     }
 }
 
 /// The greatest L in range for the radius of curve i.
 fn greatest_spiral_of(sheet: &[u8], i: usize) -> u32 {
-    let r = value_in(sheet, radius(i)).unwrap_or(GREATEST_RADIUS);
+    let radius = radius(edition_said(sheet), i);
+    let r = value_in(sheet, radius).unwrap_or(GREATEST_RADIUS);
     greatest_spiral(r)
 }
 
@@ -151,7 +160,7 @@ fn lengthen(dice: &mut Dice, sheet: &mut Vec<u8>) {
 
 /// Sets bits of the fill, often a single one.
 fn set_fill(dice: &mut Dice, sheet: &mut [u8]) {
-    let fill = fill(curves_of(sheet));
+    let fill = fill(edition_said(sheet), curves_of(sheet));
     if fill.width == 0 {
         return;
     }
@@ -163,8 +172,9 @@ fn set_fill(dice: &mut Dice, sheet: &mut [u8]) {
 #[cfg(test)]
 mod tests {
     use super::*;
+    use reference::edition::{FIRST, SECOND};
     use reference::line::Line;
-    use reference::samples::sheet_fields::sheet_of;
+    use reference::samples::sheet_fields::sheet_of_either;
 
     #[test]
     fn edges_of_fields() {
@@ -174,11 +184,17 @@ mod tests {
             edges.dedup();
             edges
         };
-        assert_eq!(sorted(EDITION, 1, 1), [0, 1, 2, 15]);
+        assert_eq!(sorted(EDITION, 1, 2), [0, 1, 2, 3, 15]);
         assert_eq!(sorted(COUNT, 0, 64), [0, 1, 63, 64, 65, 127]);
-        assert_eq!(sorted(side(1), 0, 1), [0, 1]);
+        assert_eq!(sorted(side(FIRST, 1), 0, 1), [0, 1]);
+        let greatest = 4_000_000_000;
         assert_eq!(
-            sorted(radius(1), 20_000, 5_000_000),
+            sorted(start(SECOND), 0, greatest),
+            [0, 1, greatest - 1, greatest, greatest + 1, u32::MAX]
+        );
+        assert_eq!(sorted(start(FIRST), 0, greatest), [0, 1, (1 << 28) - 1]);
+        assert_eq!(
+            sorted(radius(FIRST, 1), 20_000, 5_000_000),
             [0, 19_999, 20_000, 20_001, 4_999_999, 5_000_000, 5_000_001, 8_388_607]
         );
     }
@@ -189,7 +205,7 @@ mod tests {
         let mut dice = Dice::new(1);
         let mut changed = 0;
         for _ in 0..2_000 {
-            let mut sheet = sheet_of(&Line::case_1());
+            let mut sheet = sheet_of_either(&mut dice, &Line::case_1());
             for _ in 0..8 {
                 let before = sheet.clone();
                 damage(&mut dice, &mut sheet);

@@ -2,6 +2,7 @@
 //! with every size of buffer; then random inputs. Every input follows from the
 //! seed and its index alone.
 
+mod conversions;
 mod curves;
 mod damage;
 mod lines;
@@ -13,20 +14,23 @@ mod profiles;
 mod sheets;
 
 use crate::input::{Input, Request, Room};
+use conversions::any_conversion;
 use curves::any_curve;
-use lines::any_line;
+use lines::any_write;
 use named::{named_requests, NamedRequest};
 use pegs::any_peg;
 use points::any_survey;
 use profiles::any_height;
+use reference::edition::{EDITIONS, FIRST, SECOND};
 use reference::line::{Line, MOST_CURVES};
 use reference::profile::MOST_VERTICES;
+use reference::samples::call::Callee::Writer;
+use reference::samples::call_edges::road_for;
 use reference::samples::dice::Dice;
 use reference::samples::point_edges::{case_1, staircase};
 use reference::samples::profile_edges::{crest, waves};
-use reference::samples::roads::road;
-use reference::samples::sheet_fields::sheet_of;
-use sheets::any_sheet;
+use reference::samples::sheet_fields::sheet_in;
+pub use sheets::any_sheet;
 
 /// The inputs of a seed.
 pub struct Inputs {
@@ -92,15 +96,24 @@ impl Inputs {
     }
 }
 
-/// Case 1 and a road of 64 curves with the calls that take a sheet or a line, case
-/// 1's curve, one and 64 curves by points, and profiles of one and 32 vertices.
+/// Case 1's curve; case 1 in edition 1 and a road of 64 curves in edition 2 with the
+/// calls that take a sheet; both, and a road of three curves, whose sheets differ in
+/// length, written in both editions and converted both ways; one and 64 curves by
+/// points, and profiles of one and 32 vertices.
 fn sized_requests(seed: u64) -> Vec<Request> {
-    let lines = [Line::case_1(), road(&mut Dice::new(seed), MOST_CURVES)];
+    let mut dice = Dice::new(seed);
+    let [three, full] = [3, MOST_CURVES].map(|n| road_for(&mut dice, Writer(FIRST), n));
     let mut requests = vec![Request::Elements(Line::case_1().curve(1))];
-    for line in &lines {
-        let sheet = sheet_of(line);
+    for (edition, line) in [(FIRST, &Line::case_1()), (SECOND, &full)] {
+        let sheet = sheet_in(edition, line);
         requests.extend(Request::OF_A_SHEET.map(|request| request(sheet.clone())));
-        requests.push(Request::Write(line.numbers()));
+    }
+    for line in [&Line::case_1(), &three, &full] {
+        for edition in EDITIONS {
+            let sheet = sheet_in(edition, line);
+            requests.push(Request::Write(edition.number, line.numbers()));
+            requests.push(Request::Convert(sheet, edition.other().number));
+        }
     }
     requests.extend([case_1(), staircase(MOST_CURVES)].map(Request::FromPoints));
     for profile in [crest(), waves(MOST_VERTICES)] {
@@ -129,17 +142,19 @@ fn any_request_and_room(dice: &mut Dice) -> (Request, Room) {
 }
 
 fn any_request(dice: &mut Dice) -> Request {
-    match dice.between(0, 46) {
+    match dice.between(0, 53) {
         0..=6 => Request::Stations(any_sheet(dice)),
         7..=8 => Request::Check(any_sheet(dice)),
         9..=12 => Request::Rewrite(any_sheet(dice)),
         13..=15 => Request::Elements(any_curve(dice)),
         16..=19 => Request::Text(any_sheet(dice)),
         20..=23 => Request::Read(any_sheet(dice)),
-        24..=29 => Request::Write(any_line(dice)),
+        24..=29 => any_write(dice),
         30..=35 => any_peg(dice),
         36..=41 => Request::FromPoints(any_survey(dice)),
-        _ => any_height(dice),
+        42..=46 => any_height(dice),
+        47..=48 => Request::Edition(any_sheet(dice)),
+        _ => any_conversion(dice),
     }
 }
 

@@ -3,8 +3,12 @@
 
 use crate::input::{Call, Request, Room};
 use reference::curve::Curve;
+use reference::edition::{Edition, EDITIONS, FIRST};
 use reference::line::{Line, MOST_CURVES};
 use reference::line_numbers::number_count;
+use reference::samples::call::Callee::Writer;
+use reference::samples::call_edges::road_for;
+use reference::samples::convert_edges::{self, NO_EDITIONS};
 use reference::samples::curves;
 use reference::samples::dice::Dice;
 use reference::samples::halves;
@@ -13,12 +17,12 @@ use reference::samples::named::{named, Claim, Named};
 use reference::samples::peg_edges;
 use reference::samples::point_edges;
 use reference::samples::profile_edges;
-use reference::samples::roads::road;
 use reference::samples::sheet_edges;
-use reference::samples::sheet_fields::{sheet_of, sheet_of_any};
+use reference::samples::sheet_fields::{editions_for, sheet_in, sheet_of_any};
 use reference::samples::station_cases::named_sheets;
 use reference::samples::station_sheets::full_length_edges;
 use reference::samples::writer_edges;
+use reference::sheet;
 
 /// A request and the room that is lent.
 pub type NamedRequest = Named<(Request, Room)>;
@@ -36,9 +40,11 @@ pub fn named_requests() -> Vec<NamedRequest> {
         curves(),
         edges_of_the_writer(&mut dice),
         odd_lines(&mut dice),
+        no_editions(),
         pegs(&mut dice),
         points(),
         heights(&mut dice),
+        conversions(&mut dice),
     ]
     .concat();
     let without_room = without_room(&requests);
@@ -94,7 +100,21 @@ fn request_of<T>(sample: Named<T>, make: impl FnOnce(T) -> (Request, Room)) -> N
 fn of_a_sheet(sheet: Named<Vec<u8>>) -> Vec<NamedRequest> {
     Request::OF_A_SHEET
         .map(|of_sheet| request_of(sheet.clone(), |sheet| (of_sheet(sheet), Room::Needed(0))))
+        .map(with_far_start)
         .to_vec()
+}
+
+/// A conversion of a sheet that is read, but whose start edition 1 does not hold,
+/// claims 24.
+fn with_far_start(request: NamedRequest) -> NamedRequest {
+    let far = match &request.sample.0 {
+        Request::Convert(sheet, _) => {
+            sheet::line_of(sheet).is_ok_and(|line| line.start > FIRST.greatest_start)
+        }
+        _ => false,
+    };
+    let claim = if far { Claim::of(24, 0) } else { request.claim };
+    Named { claim, ..request }
 }
 
 /// The sheets of `samples/stations`.
@@ -113,22 +133,25 @@ fn edges_of_the_reader(dice: &mut Dice) -> Vec<NamedRequest> {
         .collect()
 }
 
-/// Lines that fit a sheet: the stations with the room of the edge; where it is
-/// not too small, the other calls too.
+/// Lines that fit a sheet, in every edition that takes the start: the stations with the
+/// room of the edge; where it is not too small, the other calls too.
 fn edges_of_the_calculator(dice: &mut Dice) -> Vec<NamedRequest> {
     let mut requests = Vec::new();
     for edge in line_edges::edges(dice) {
-        let Some(sheet) = sheet_of_any(&edge.sample.line) else {
-            continue;
-        };
-        let line = named(format!("line, {}", edge.name), edge.claim, sheet);
         let room = Room::Entries(edge.sample.room);
-        requests.push(request_of(line.clone(), |sheet| {
-            (Request::Stations(sheet), room)
-        }));
-        if edge.claim != Claim::of(16, 0) {
-            let calls = of_a_sheet(line).into_iter();
-            requests.extend(calls.filter(|other| other.sample.0.call() != Call::Stations));
+        for edition in editions_for(&edge.sample.line) {
+            let Some(sheet) = sheet_of_any(*edition, &edge.sample.line) else {
+                continue;
+            };
+            let name = format!("line in edition {}, {}", edition.number, edge.name);
+            let line = named(name, edge.claim, sheet);
+            requests.push(request_of(line.clone(), |sheet| {
+                (Request::Stations(sheet), room)
+            }));
+            if edge.claim != Claim::of(16, 0) {
+                let calls = of_a_sheet(line).into_iter();
+                requests.extend(calls.filter(|other| other.sample.0.call() != Call::Stations));
+            }
         }
     }
     requests
@@ -144,21 +167,68 @@ fn curves() -> Vec<NamedRequest> {
 
 /// Lines by their numbers, those that no sheet can hold among them.
 fn edges_of_the_writer(dice: &mut Dice) -> Vec<NamedRequest> {
-    let edges = writer_edges::edges(dice).into_iter();
-    let requests = edges.map(|edge| {
+    let mut requests = Vec::new();
+    for edition in EDITIONS {
+        let edges = writer_edges::edges(dice, edition).into_iter();
+        requests.extend(edges.map(|edge| {
+            request_of(in_edition(edition, edge), |call| {
+                let line = call.line.numbers();
+                let request = Request::Write(edition.number, line);
+                (request, Room::Entries(call.room))
+            })
+        }));
+    }
+    requests
+}
+
+/// The same sample, its name beginning with the edition's.
+fn in_edition<T>(edition: Edition, sample: Named<T>) -> Named<T> {
+    let name = format!("edition {}, {}", edition.number, sample.name);
+    Named { name, ..sample }
+}
+
+/// Case 1, a line of too few numbers and one with a fault of each kind, in editions
+/// that are none: 2 comes first.
+fn no_editions() -> Vec<NamedRequest> {
+    let case_1 = Line::case_1().numbers();
+    let faulty = [1, 45, 1, u32::MAX, 0, 2, 0, 0, u32::MAX, 0].to_vec();
+    let lines = [
+        ("case 1", case_1.clone()),
+        ("case 1, cut to 9 numbers", case_1[..9].to_vec()),
+        ("no number", Vec::new()),
+        ("every field outside its range", faulty),
+    ];
+    let mut requests = Vec::new();
+    for (name, line) in lines {
+        for edition in NO_EDITIONS {
+            let name = format!("edition {edition}, {name}");
+            let line = named(name, Claim::of(2, 0), line.clone());
+            requests.push(request_of(line, |line| {
+                (Request::Write(edition, line), Room::Needed(0))
+            }));
+        }
+    }
+    requests
+}
+
+/// The stations of each line in the editions that take its start, by turns.
+fn pegs(dice: &mut Dice) -> Vec<NamedRequest> {
+    let edges = peg_edges::edges(dice).into_iter().enumerate();
+    let requests = edges.map(|(i, edge)| {
         request_of(edge, |call| {
-            let line = call.line.numbers();
-            (Request::Write(line), Room::Entries(call.room))
+            let editions = editions_for(&call.line);
+            let sheet = sheet_in(editions[i % editions.len()], &call.line);
+            (Request::Peg(sheet, call.station), Room::Entries(call.room))
         })
     });
     requests.collect()
 }
 
-fn pegs(dice: &mut Dice) -> Vec<NamedRequest> {
-    let edges = peg_edges::edges(dice).into_iter();
+fn conversions(dice: &mut Dice) -> Vec<NamedRequest> {
+    let edges = convert_edges::edges(dice).into_iter();
     let requests = edges.map(|edge| {
         request_of(edge, |call| {
-            let request = Request::Peg(sheet_of(&call.line), call.station);
+            let request = Request::Convert(call.sheet, call.asked);
             (request, Room::Entries(call.room))
         })
     });
@@ -189,18 +259,28 @@ fn heights(dice: &mut Dice) -> Vec<NamedRequest> {
 /// Numbers that are no line's: too few, too many, sides that are none, numbers
 /// wider than their fields.
 fn odd_lines(dice: &mut Dice) -> Vec<NamedRequest> {
-    [miscounted(dice), too_many_curves(), sides(dice), too_wide()]
-        .concat()
-        .into_iter()
-        .map(|line| request_of(line, |line| (Request::Write(line), Room::Needed(0))))
-        .collect()
+    let mut requests = Vec::new();
+    for edition in EDITIONS {
+        let lines = [
+            miscounted(dice, edition),
+            too_many_curves(),
+            sides(dice, edition),
+            too_wide(edition),
+        ];
+        requests.extend(lines.concat().into_iter().map(|line| {
+            request_of(in_edition(edition, line), |line| {
+                (Request::Write(edition.number, line), Room::Needed(0))
+            })
+        }));
+    }
+    requests
 }
 
 /// Too few and too many numbers for n.
-fn miscounted(dice: &mut Dice) -> Vec<Named<Vec<u32>>> {
+fn miscounted(dice: &mut Dice, edition: Edition) -> Vec<Named<Vec<u32>>> {
     let mut lines = Vec::new();
     for n in [0, 1, 3, MOST_CURVES] {
-        let line = road(dice, n).numbers();
+        let line = road_for(dice, Writer(edition), n).numbers();
         for count in [
             line.len() - 5,
             line.len() - 1,
@@ -249,18 +329,18 @@ fn too_many_curves() -> Vec<Named<Vec<u32>>> {
 }
 
 /// Sides other than right and left, alone and with faults before and behind.
-fn sides(dice: &mut Dice) -> Vec<Named<Vec<u32>>> {
+fn sides(dice: &mut Dice, edition: Edition) -> Vec<Named<Vec<u32>>> {
     let mut lines = Vec::new();
     for (n, place) in [(1, 1), (3, 1), (3, 2), (3, 3), (MOST_CURVES, MOST_CURVES)] {
         for side in [2, 3, 1 << 31, u32::MAX] {
-            let mut line = road(dice, n);
+            let mut line = road_for(dice, Writer(edition), n);
             line.sides[place - 1] = side;
             let name = format!("side {side} at {place} of {n} curves");
             lines.push(named(name, Claim::of(9, place), line.numbers()));
         }
     }
     let mut faulty = |name: &str, number, place, fault: fn(&mut Line)| {
-        let mut line = road(dice, 3);
+        let mut line = road_for(dice, Writer(edition), 3);
         line.sides[1] = 2;
         fault(&mut line);
         let name = format!("side 2 at 2 of 3 curves, {name}");
@@ -280,12 +360,13 @@ fn sides(dice: &mut Dice) -> Vec<Named<Vec<u32>>> {
 }
 
 /// Case 1 with one number that, cut to the bits of its field, would be its own:
-/// the number's index, the bits of its field, and the refusal.
-fn too_wide() -> Vec<Named<Vec<u32>>> {
+/// the number's index, the bits of its field, and the refusal. The start of edition 2
+/// is as wide as a number.
+fn too_wide(edition: Edition) -> Vec<Named<Vec<u32>>> {
     let fields = [
         ("V", 1, 7, (4, 0)),
         ("e", 2, 4, (5, 0)),
-        ("start", 3, 28, (6, 0)),
+        ("start", 3, edition.start_bits, (6, 0)),
         ("distance 0", 4, 25, (8, 0)),
         ("side", 5, 1, (9, 1)),
         ("deflection", 6, 19, (9, 1)),
@@ -296,7 +377,7 @@ fn too_wide() -> Vec<Named<Vec<u32>>> {
     let mut lines = Vec::new();
     for (field, index, width, (number, place)) in fields {
         let mut bits = vec![width, 25, 28, 31];
-        bits.retain(|bit| *bit >= width);
+        bits.retain(|bit| (width..u32::BITS).contains(bit));
         bits.dedup();
         for bit in bits {
             let mut line = Line::case_1().numbers();
@@ -336,29 +417,33 @@ mod tests {
             curves().len(),
             edges_of_the_writer(&mut dice).len(),
             odd_lines(&mut dice).len(),
+            no_editions().len(),
             pegs(&mut dice).len(),
             points().len(),
             heights(&mut dice).len(),
+            conversions(&mut dice).len(),
         ];
-        // Of the calculator's 345 lines no sheet can hold 26; 7 rooms are too
-        // small.
-        let of_the_calculator = (345 - 26) * 6 - 7 * 5;
-        let of_the_reader = (532 + 32) * 6;
+        // Of the calculator's lines 622 sheets are made; 12 of them have a room that
+        // is too small.
+        let of_the_calculator = 622 * 8 - 12 * 7;
+        let of_the_reader = (1_087 + 64) * 8;
         assert_eq!(
             counts,
             [
-                31 * 6,
+                47 * 8,
                 of_the_reader,
                 of_the_calculator,
                 8 + 469 + 17,
-                165,
-                93,
-                1_650 + 6 + 16 + 8,
-                1_050,
-                1_977,
+                2 * 193,
+                93 + 91,
+                4 * 12,
+                1_663 + 6 + 16 + 8,
+                1_054,
+                1_988,
+                454,
             ]
         );
-        let without_room = 3_974;
+        let without_room = 7_042;
         let all = counts.iter().sum::<usize>() + without_room;
         assert_eq!(named_requests().len(), all);
     }
@@ -386,7 +471,7 @@ mod tests {
     }
 
     /// Every refusal of every call is claimed; too small rooms only of the calls
-    /// of a line, of pegs, of points and of heights, the other calls have every size
+    /// of a line, of pegs, of points, of heights and of conversions, the other calls have every size
     /// elsewhere.
     #[test]
     fn every_refusal_is_claimed() {
@@ -394,7 +479,12 @@ mod tests {
             let mut expected: BTreeSet<u8> = call.refusals().into_iter().collect();
             if !matches!(
                 call,
-                Call::Stations | Call::Write | Call::Peg | Call::FromPoints | Call::Height
+                Call::Stations
+                    | Call::Write
+                    | Call::Peg
+                    | Call::FromPoints
+                    | Call::Height
+                    | Call::Convert
             ) {
                 expected.remove(&16);
             }

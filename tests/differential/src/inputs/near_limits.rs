@@ -107,6 +107,7 @@ fn distance_near_least(dice: &mut Dice, line: &Line, i: usize) -> u32 {
 mod tests {
     use super::*;
     use reference::elements::arc;
+    use reference::line::GREATEST_START;
     use reference::refusal::Refusal;
     use reference::road_tables::SPEEDS;
     use reference::stations::{stations, straight};
@@ -118,7 +119,7 @@ mod tests {
         let mut times = BTreeMap::new();
         for round in 0..3_000 {
             let line = road_near_limits(&mut dice, 1 + round % 6);
-            assert_eq!(line.check_ranges(), Ok(()));
+            assert_eq!(line.check_ranges(GREATEST_START), Ok(()));
             let answer = stations(&line, &mut [0; 257]);
             let number = answer.map_or_else(|Refusal { number, .. }| number, |_| 0);
             *times.entry(number).or_insert(0) += 1;

@@ -11,7 +11,7 @@ use reference::samples::dice::Dice;
 use reference::samples::limits::{greatest_spiral, least_radius, least_spiral};
 use reference::samples::peg_edges::BEYOND;
 use reference::samples::roads::{road_deflection, road_with_curve};
-use reference::samples::sheet_fields::sheet_of;
+use reference::samples::sheet_fields::sheet_of_either;
 
 /// The radius up to which sharp curves are sought, mm.
 const SHARP: u32 = 600_000;
@@ -19,8 +19,14 @@ const SHARP: u32 = 600_000;
 /// Any sheet, those of roads frequent, with any station.
 pub fn any_peg(dice: &mut Dice) -> Request {
     let sheet = match dice.between(0, 4) {
-        0..=1 => sheet_of(&any_road(dice)),
-        2 => sheet_of(&sharp_road(dice)),
+        0..=1 => {
+            let road = any_road(dice);
+            sheet_of_either(dice, &road)
+        }
+        2 => {
+            let road = sharp_road(dice);
+            sheet_of_either(dice, &road)
+        }
         _ => any_sheet(dice),
     };
     let station = any_station(dice, &stretches_of(&sheet));

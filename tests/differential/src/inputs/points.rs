@@ -2,6 +2,7 @@
 //! second, damaged ones, and any numbers.
 
 use super::sheets::any_count;
+use reference::edition::FIRST;
 use reference::line::{GREATEST_START, LEFT, RIGHT};
 use reference::points::{Heading, GREATEST_COORDINATE, GREATEST_TURN};
 use reference::road_tables::SPEEDS;
@@ -159,7 +160,11 @@ fn put_heading(dice: &mut Dice, survey: &mut Survey) {
     match dice.between(0, 2) {
         0 => *v = dice.one_of(&[0, speed - 1, speed, speed + 1, 130, any]),
         1 => *e = dice.one_of(&[0, 1, 2, 12, 13, any]),
-        _ => *start = dice.one_of(&[0, GREATEST_START, GREATEST_START + 1, any]),
+        _ => {
+            let beyond = [FIRST.greatest_start + 1, GREATEST_START + 1, u32::MAX];
+            let any = dice.one_of(&[0, GREATEST_START, any]);
+            *start = dice.one_of(&[any, beyond[0], beyond[1], beyond[2]])
+        }
     }
 }
 

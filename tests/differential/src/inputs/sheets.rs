@@ -1,18 +1,19 @@
-//! Random sheets: of roads, of roads at the limits of the checks, of lines in
-//! range, damaged ones, and any bytes.
+//! Random sheets of both editions: of roads, of roads at the limits of the checks, of
+//! lines in range, damaged ones, and any bytes.
 
 use super::damage::damage;
 use super::near_limits::road_near_limits;
 use reference::curve::Curve;
+use reference::edition::EDITIONS;
 use reference::elements::{GREATEST_DEFLECTION, GREATEST_RADIUS, SMALLEST_RADIUS};
-use reference::line::{Line, CROSSFALLS, GREATEST_DISTANCE, GREATEST_START, MOST_CURVES};
+use reference::line::{Line, CROSSFALLS, GREATEST_DISTANCE, MOST_CURVES};
 use reference::road_tables::SPEEDS;
 use reference::samples::dice::Dice;
 use reference::samples::limits::greatest_spiral;
-use reference::samples::ranges::line_in_range;
+use reference::samples::ranges;
 use reference::samples::roads::{any_side, road};
-use reference::samples::sheet_fields::sheet_of;
-use reference::samples::sheets::{any_bytes, any_bytes_of_the_edition, any_entries};
+use reference::samples::sheet_fields::sheet_of_either;
+use reference::samples::sheets::{any_bytes, any_bytes_of_an_edition, any_entries};
 
 /// Bytes of the longest sheet that is tried.
 const MOST_BYTES: usize = 1_500;
@@ -20,10 +21,13 @@ const MOST_BYTES: usize = 1_500;
 /// Any sheet.
 pub fn any_sheet(dice: &mut Dice) -> Vec<u8> {
     match dice.between(0, 19) {
-        0..=4 => sheet_of(&any_road(dice)),
+        0..=4 => sheet_of_a_road(dice),
         5..=8 => sheet_near_limits(dice),
         9..=10 => sheet_in_range(dice),
-        11 => sheet_of(&line_at_ends(dice)),
+        11 => {
+            let line = line_at_ends(dice);
+            sheet_of_either(dice, &line)
+        }
         12..=16 => damaged_sheet(dice),
         17 => any_entries(dice),
         18 => any_length(dice),
@@ -50,22 +54,31 @@ pub fn any_road(dice: &mut Dice) -> Line {
     road(dice, n)
 }
 
+fn sheet_of_a_road(dice: &mut Dice) -> Vec<u8> {
+    let road = any_road(dice);
+    sheet_of_either(dice, &road)
+}
+
 fn sheet_near_limits(dice: &mut Dice) -> Vec<u8> {
     let n = any_count(dice).max(1);
-    sheet_of(&road_near_limits(dice, n))
+    let road = road_near_limits(dice, n);
+    sheet_of_either(dice, &road)
 }
 
 /// A sheet that the reader accepts.
 fn sheet_in_range(dice: &mut Dice) -> Vec<u8> {
     let n = any_count(dice);
-    sheet_of(&line_in_range(dice, n))
+    let edition = dice.one_of(&EDITIONS);
+    ranges::sheet_in_range(dice, edition, n)
 }
 
-/// A line whose every field is at an end of its range, or next to it.
+/// A line whose every field is at an end of its range, or next to it; the start's is
+/// that of either edition.
 pub fn line_at_ends(dice: &mut Dice) -> Line {
     let n = any_count(dice);
     let e = near_end(dice, *CROSSFALLS.start(), *CROSSFALLS.end());
-    let start = near_end(dice, 0, GREATEST_START);
+    let greatest_start = dice.one_of(&EDITIONS).greatest_start;
+    let start = near_end(dice, 0, greatest_start);
     let curves: Vec<Curve> = (0..n).map(|_| curve_at_ends(dice)).collect();
     let distances: Vec<u32> = (0..=n)
         .map(|_| near_end(dice, 1, GREATEST_DISTANCE))
@@ -91,7 +104,7 @@ fn near_end(dice: &mut Dice, least: u32, most: u32) -> u32 {
 /// A sheet of a road or of a line in range, with one to five damages.
 fn damaged_sheet(dice: &mut Dice) -> Vec<u8> {
     let mut sheet = match dice.between(0, 3) {
-        0..=1 => sheet_of(&any_road(dice)),
+        0..=1 => sheet_of_a_road(dice),
         2 => sheet_near_limits(dice),
         _ => sheet_in_range(dice),
     };
@@ -114,7 +127,7 @@ fn any_bytes_at_all(dice: &mut Dice) -> Vec<u8> {
     if dice.once_in(2) {
         any_bytes(dice)
     } else {
-        any_bytes_of_the_edition(dice)
+        any_bytes_of_an_edition(dice)
     }
 }
 
@@ -123,6 +136,7 @@ mod tests {
     use super::*;
     use crate::input::curves_of;
     use crate::side::{Reference, Side};
+    use reference::line::GREATEST_START;
     use std::collections::BTreeMap;
 
     #[test]
@@ -146,11 +160,26 @@ mod tests {
         assert!(accepted_counts.len() >= 45, "{accepted_counts:?}");
     }
 
+    /// Accepted sheets of both editions, of edition 2 also with starts that only it
+    /// holds.
+    #[test]
+    fn both_editions() {
+        let mut dice = Dice::new(1);
+        let mut times = [0; 3];
+        for _ in 0..3_000 {
+            let sheet = any_sheet(&mut dice);
+            let edition = Reference.edition(&sheet).unwrap_or(0);
+            times[edition] += 1;
+        }
+        assert!(times.iter().all(|count| *count >= 700), "{times:?}");
+    }
+
     #[test]
     fn lines_at_ends_are_in_range() {
         let mut dice = Dice::new(1);
         for _ in 0..1_000 {
-            assert_eq!(line_at_ends(&mut dice).check_ranges(), Ok(()));
+            let line = line_at_ends(&mut dice);
+            assert_eq!(line.check_ranges(GREATEST_START), Ok(()));
         }
     }
 }
