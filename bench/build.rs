@@ -6,7 +6,11 @@ use std::path::{Path, PathBuf};
 use std::process::{exit, Command};
 
 /// The calls of the library before, and their names in the bench.
-const BEFORE: [[&str; 2]; 5] = [
+const BEFORE: [[&str; 2]; 9] = [
+    ["pokyandi_read", "before_read"],
+    ["pokyandi_check", "before_check"],
+    ["pokyandi_text", "before_text"],
+    ["pokyandi_from_points", "before_from_points"],
     ["pokyandi_write", "before_write"],
     ["pokyandi_rewrite", "before_rewrite"],
     ["pokyandi_stations", "before_stations"],

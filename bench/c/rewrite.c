@@ -1,21 +1,30 @@
-/* A sheet read into a line and written again, from document 01's packed sheet: every check of the reader in its order, the fields of a curve
- * taken and put in two groups by words of 64 bits. What the library's call costs in plain C. */
+/* A sheet read into a line and written again, in its own edition or in the other, from document 01's packed sheet and document 02's edition 2:
+ * every check of the reader in its order, the fields of a curve taken and put in two groups by words of 64 bits. What the library's calls cost in
+ * plain C. */
 #include <stdbool.h>
 #include <stddef.h>
 #include <stdint.h>
 
-enum { EDITION = 1, MOST_CURVES = 64, GREATEST_START = 200000000, GREATEST_DISTANCE = 20000000 };
+enum { MOST_CURVES = 64, GREATEST_DISTANCE = 20000000 };
 enum { GREATEST_DEFLECTION = 432000, SMALLEST_RADIUS = 20000, GREATEST_RADIUS = 5000000, GREATEST_SPIRAL = 500000 };
 
-/* Bits of the fields. */
-enum { COUNT_BITS = 7, SPEED_BITS = 7, CROSSFALL_BITS = 4, START_BITS = 28 };
+/* What is an edition's own: its number, the bits of its start, and the greatest start. */
+struct edition {
+    uint32_t number, start_bits, greatest_start;
+};
+static const struct edition EDITIONS[2] = {{1, 28, 200000000}, {2, 32, 4000000000}};
+
+/* Bits of the other fields. */
+enum { EDITION_BITS = 4, COUNT_BITS = 7, SPEED_BITS = 7, CROSSFALL_BITS = 4 };
 enum { DISTANCE_BITS = 25, DEFLECTION_BITS = 19, SPIRAL_BITS = 19 };
-/* Bits of the heading, of the two groups of a curve, and of both. */
-enum { HEADING_BITS = 50, LEG_BITS = 45, BEND_BITS = 42, CURVE_BITS = LEG_BITS + BEND_BITS };
+/* Bits before the start, of the two groups of a curve, and of both. */
+enum { FRONT_BITS = EDITION_BITS + COUNT_BITS + SPEED_BITS + CROSSFALL_BITS };
+enum { LEG_BITS = 45, BEND_BITS = 42, CURVE_BITS = LEG_BITS + BEND_BITS };
 enum { HEADING_BYTES = 7, WORD_BYTES = 8, WORD_BITS = 64 };
 
 struct heading {
-    uint32_t edition, n, speed, crossfall, start;
+    const struct edition *edition;
+    uint32_t n, speed, crossfall, start;
 };
 
 /* A curve in two groups, as they stand in the sheet: the distance before it, side and deflection; radius and spiral. */
@@ -76,39 +85,50 @@ static inline bool good_curve(struct curve curve) {
 
 /* ---- the reader ---- */
 
+/* The edition of a sheet, or none. */
+static inline const struct edition *edition_of(const uint8_t *sheet) {
+    uint32_t number = sheet[0] >> 4;
+    return within(number, 1, 2) ? &EDITIONS[number - 1] : NULL;
+}
+
+/* Bits of the heading, edition to start. */
+static inline unsigned heading_length(const struct edition *edition) { return FRONT_BITS + edition->start_bits; }
+
 /* Seven bytes, by two halves that share the fourth. */
-static inline struct heading take_heading(const uint8_t *sheet) {
-    uint64_t bits = (half_word(sheet) << 24 | half_word(sheet + 3)) >> (8 * HEADING_BYTES - HEADING_BITS);
+static inline struct heading take_heading(const uint8_t *sheet, const struct edition *edition) {
+    uint64_t bits = (half_word(sheet) << 24 | half_word(sheet + 3)) >> (8 * HEADING_BYTES - heading_length(edition));
     struct heading heading;
-    heading.start = low(bits, START_BITS);
-    bits >>= START_BITS;
+    heading.edition = edition;
+    heading.start = low(bits, edition->start_bits);
+    bits >>= edition->start_bits;
     heading.crossfall = low(bits, CROSSFALL_BITS);
     bits >>= CROSSFALL_BITS;
     heading.speed = low(bits, SPEED_BITS);
     bits >>= SPEED_BITS;
     heading.n = low(bits, COUNT_BITS);
-    heading.edition = (uint32_t)(bits >> COUNT_BITS);
     return heading;
 }
 
-/* Checks 2 to 6. */
+/* Checks 3 to 6. */
 static inline uint64_t check_heading(const struct heading *heading) {
-    if (heading->edition != EDITION) return refused(2, 0);
     if (heading->n > MOST_CURVES) return refused(3, 0);
     if (heading->speed < 40 || heading->speed > 120 || heading->speed % 10 != 0) return refused(4, 0);
     if (!within(heading->crossfall, 2, 12)) return refused(5, 0);
-    if (heading->start > GREATEST_START) return refused(6, 0);
+    if (heading->start > heading->edition->greatest_start) return refused(6, 0);
     return 0;
 }
 
-static inline size_t bit_count(size_t n) { return HEADING_BITS + CURVE_BITS * n + DISTANCE_BITS; }
-static inline size_t byte_count(size_t n) { return (bit_count(n) + 7) / 8; }
-static inline unsigned fill_bits(size_t n) { return (unsigned)(8 * byte_count(n) - bit_count(n)); }
+static inline size_t bit_count(const struct heading *heading) {
+    return heading_length(heading->edition) + (size_t)CURVE_BITS * heading->n + DISTANCE_BITS;
+}
+static inline size_t byte_count(const struct heading *heading) { return (bit_count(heading) + 7) / 8; }
+static inline unsigned fill_bits(const struct heading *heading) { return (unsigned)(8 * byte_count(heading) - bit_count(heading)); }
 
 /* Checks 1 (full length) and 7. */
-static inline uint64_t check_end(const uint8_t *sheet, size_t sheet_bytes, size_t n) {
-    if (sheet_bytes < byte_count(n)) return refused(1, 0);
-    if (sheet_bytes > byte_count(n) || low(sheet[sheet_bytes - 1], fill_bits(n)) != 0) return refused(7, 0);
+static inline uint64_t check_end(const uint8_t *sheet, size_t sheet_bytes, const struct heading *heading) {
+    size_t bytes = byte_count(heading);
+    if (sheet_bytes < bytes) return refused(1, 0);
+    if (sheet_bytes > bytes || low(sheet[bytes - 1], fill_bits(heading)) != 0) return refused(7, 0);
     return 0;
 }
 
@@ -119,14 +139,14 @@ static inline uint64_t take(const uint8_t *sheet, size_t first_bit, unsigned bit
 
 /* Takes the distances and curves, and tells whether all are in range. */
 static inline bool take_entries(const uint8_t *sheet, size_t sheet_bytes, struct line *line) {
-    size_t n = line->heading.n, bit = HEADING_BITS;
+    size_t n = line->heading.n, bit = heading_length(line->heading.edition);
     bool good = true;
     for (size_t i = 0; i < n; i++, bit += CURVE_BITS) {
         struct curve curve = {take(sheet, bit, LEG_BITS), take(sheet, bit + LEG_BITS, BEND_BITS)};
         good &= good_curve(curve);
         line->curves[i] = curve;
     }
-    line->last_distance = low(word(sheet + sheet_bytes - WORD_BYTES) >> fill_bits(n), DISTANCE_BITS);
+    line->last_distance = low(word(sheet + sheet_bytes - WORD_BYTES) >> fill_bits(&line->heading), DISTANCE_BITS);
     return good & good_distance(line->last_distance);
 }
 
@@ -145,10 +165,12 @@ static uint64_t first_refusal(const struct line *line) {
 
 static inline uint64_t read_line(const uint8_t *sheet, size_t sheet_bytes, struct line *line) {
     uint64_t refusal;
+    const struct edition *edition;
     if (sheet_bytes < HEADING_BYTES) return refused(1, 0);
-    line->heading = take_heading(sheet);
+    if (!(edition = edition_of(sheet))) return refused(2, 0);
+    line->heading = take_heading(sheet, edition);
     if ((refusal = check_heading(&line->heading))) return refusal;
-    if ((refusal = check_end(sheet, sheet_bytes, line->heading.n))) return refusal;
+    if ((refusal = check_end(sheet, sheet_bytes, &line->heading))) return refusal;
     return take_entries(sheet, sheet_bytes, line) ? 0 : first_refusal(line);
 }
 
@@ -184,15 +206,15 @@ static inline void finish(struct pen *pen) {
 }
 
 static inline uint64_t heading_bits(const struct heading *heading) {
-    uint64_t bits = heading->edition;
+    uint64_t bits = heading->edition->number;
     bits = bits << COUNT_BITS | heading->n;
     bits = bits << SPEED_BITS | heading->speed;
     bits = bits << CROSSFALL_BITS | heading->crossfall;
-    return bits << START_BITS | heading->start;
+    return bits << heading->edition->start_bits | heading->start;
 }
 
 static inline void write_line(const struct line *line, uint8_t *bytes) {
-    struct pen pen = {bytes, heading_bits(&line->heading), HEADING_BITS};
+    struct pen pen = {bytes, heading_bits(&line->heading), heading_length(line->heading.edition)};
     for (size_t i = 0; i < line->heading.n; i++) {
         put(&pen, line->curves[i].leg, LEG_BITS);
         put(&pen, line->curves[i].bend, BEND_BITS);
@@ -201,7 +223,7 @@ static inline void write_line(const struct line *line, uint8_t *bytes) {
     finish(&pen);
 }
 
-/* ---- the call ---- */
+/* ---- the calls ---- */
 
 /* The sheet read and written again at the front of `bytes`. Answers the count of its bytes, or a refusal, its number in the upper 32 bits
  * and its place in the lower; after a refusal nothing is stored. */
@@ -212,4 +234,18 @@ uint64_t baseline_rewrite(const uint8_t *sheet, size_t sheet_bytes, uint8_t *byt
     if (bytes_room < sheet_bytes) return refused(16, 0);
     write_line(&line, bytes);
     return sheet_bytes;
+}
+
+/* The sheet of the same line in the edition asked for, which must be the other one, at the front of `bytes`. Answers as above. */
+uint64_t baseline_convert(const uint8_t *sheet, size_t sheet_bytes, uint32_t asked, uint8_t *bytes, size_t bytes_room) {
+    struct line line;
+    uint64_t refusal = read_line(sheet, sheet_bytes, &line);
+    if (refusal) return refusal;
+    const struct edition *other = &EDITIONS[line.heading.edition == EDITIONS];
+    if (asked != other->number) return refused(2, 0);
+    if (line.heading.start > other->greatest_start) return refused(24, 0);
+    line.heading.edition = other;
+    if (bytes_room < byte_count(&line.heading)) return refused(16, 0);
+    write_line(&line, bytes);
+    return byte_count(&line.heading);
 }

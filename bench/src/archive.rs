@@ -1,20 +1,21 @@
-//! An archive of many sheets of all sizes, each read and written again by one call.
+//! An archive of many sheets of edition 1 and of all sizes, each read and written again
+//! by one call, and each brought to edition 2.
 
 use crate::arguments::Options;
 use crate::baseline::Baseline;
 #[cfg(before)]
 use crate::before::Before;
-use crate::compare::compare_rewrite;
+use crate::compare::{compare_convert, compare_rewrite};
+use crate::inputs::random_sheet;
 use crate::job::keep;
 use crate::library::Library;
 use crate::measure::{alternate, sure, Work};
 use crate::reference_side::Reference;
 use crate::side::Side;
 use crate::table;
+use reference::edition::SECOND;
 use reference::line::MOST_CURVES;
 use reference::samples::dice::Dice;
-use reference::samples::roads::road;
-use reference::samples::sheet_fields::sheet_of;
 use std::hint::black_box;
 
 const SEED: u64 = 9;
@@ -41,7 +42,7 @@ impl Archive {
         let mut dice = Dice::new(SEED);
         for _ in 0..sheet_count(options) {
             let curves = curve_count(&mut dice);
-            archive.bytes.extend(sheet_of(&road(&mut dice, curves)));
+            archive.bytes.extend(random_sheet(&mut dice, curves));
             archive.ends.push(archive.bytes.len());
             archive.curves += curves;
         }
@@ -93,6 +94,7 @@ pub fn compare(archive: &Archive) -> Result<(), String> {
     let (mut library, mut reference) = (Library::new(), Reference::new());
     for (i, sheet) in archive.sheets().enumerate() {
         compare_rewrite(sheet, &mut library, &mut reference)
+            .and_then(|()| compare_convert(sheet, SECOND, &mut library, &mut reference))
             .map_err(|problem| format!("archive, sheet {i}: {problem}"))?;
     }
     Ok(())
@@ -100,17 +102,45 @@ pub fn compare(archive: &Archive) -> Result<(), String> {
 
 /// Times an archive whose answers have been compared, a round being all of it.
 pub fn measure(archive: &Archive, options: &Options) -> Result<(), String> {
-    let (names, mut works): (Vec<&str>, Vec<Work>) = works(archive).into_iter().unzip();
-    alternate(1, archive.len(), &mut works)?;
-    let times = alternate(options.rounds(), archive.len(), &mut works)?;
     println!("\nArchive: {},", archive.words());
     println!("each read and written again by one call, one after the other:");
+    measure_works(archive, rewriting(archive), options)?;
+    println!("each brought to edition 2:");
+    measure_works(archive, converting(archive), options)
+}
+
+/// Each side's work, by its name, the library's first.
+type Works<'a> = Vec<(&'static str, Work<'a>)>;
+
+fn measure_works(archive: &Archive, works: Works, options: &Options) -> Result<(), String> {
+    let (names, mut works): (Vec<&str>, Vec<Work>) = works.into_iter().unzip();
+    alternate(1, archive.len(), &mut works)?;
+    let times = alternate(options.rounds(), archive.len(), &mut works)?;
     table::print_rates(&names, &times);
     Ok(())
 }
 
-/// Each side's work, by its name, the library's first.
-fn works(archive: &Archive) -> Vec<(&'static str, Work<'_>)> {
+fn converting(archive: &Archive) -> Works<'_> {
+    let (mut library, mut reference) = (Library::new(), Reference::new());
+    let mut baseline = Baseline::new();
+    let second = SECOND.number;
+    vec![
+        (
+            "library",
+            each(archive, move |sheet| keep(library.convert(sheet, second))),
+        ),
+        (
+            "reference",
+            each(archive, move |sheet| keep(reference.convert(sheet, second))),
+        ),
+        (
+            "C",
+            each(archive, move |sheet| keep(baseline.convert(sheet, second))),
+        ),
+    ]
+}
+
+fn rewriting(archive: &Archive) -> Works<'_> {
     let (mut library, mut reference) = (Library::new(), Reference::new());
     let mut baseline = Baseline::new();
     #[cfg(before)]
@@ -144,7 +174,7 @@ fn each<'a>(archive: &'a Archive, mut call: impl FnMut(&[u8]) + 'a) -> Work<'a> 
 #[cfg(test)]
 mod tests {
     use super::*;
-    use reference::sheet::read;
+    use reference::sheet::line_of;
 
     fn quick() -> Archive {
         Archive::make(&Options {
@@ -164,7 +194,7 @@ mod tests {
     fn every_count_and_most_below_eight() {
         let mut counts = [0; MOST_CURVES + 1];
         for sheet in quick().sheets() {
-            let line = read(sheet).expect("the sheet is accepted");
+            let line = line_of(sheet).expect("the sheet is accepted");
             counts[line.curve_count()] += 1;
         }
         assert!(counts.iter().all(|times| *times > 0), "{counts:?}");

@@ -1,6 +1,6 @@
 //! Plain C: the elements of one curve in f64 without checks (`c/baseline.c`), and
 //! with every check a line from points (`c/from_points.c`), a sheet read and written
-//! again (`c/rewrite.c`) and the height of a profile (`c/height.c`).
+//! again, in its edition or the other (`c/rewrite.c`), and the height of a profile (`c/height.c`).
 
 use crate::side::{Answer, Refused};
 use pokyandi::{HEIGHT_NUMBERS, LINE_NUMBERS, SHEET_BYTES};
@@ -25,6 +25,14 @@ extern "C" {
     fn baseline_rewrite(
         sheet: *const u8,
         sheet_bytes: usize,
+        bytes: *mut u8,
+        bytes_room: usize,
+    ) -> u64;
+
+    fn baseline_convert(
+        sheet: *const u8,
+        sheet_bytes: usize,
+        asked: u32,
         bytes: *mut u8,
         bytes_room: usize,
     ) -> u64;
@@ -75,6 +83,12 @@ impl Baseline {
         Ok(&self.bytes[..count])
     }
 
+    /// The sheet in the edition asked for.
+    pub fn convert(&mut self, sheet: &[u8], edition: u32) -> Answer<&[u8]> {
+        let count = convert(sheet, edition, &mut self.bytes)?;
+        Ok(&self.bytes[..count])
+    }
+
     /// The height of a profile, mm, at a station.
     pub fn height(&mut self, profile: &[i64], station: u64) -> Answer<&[i64]> {
         let count = height(profile, station, &mut self.height)?;
@@ -112,6 +126,20 @@ fn rewrite(sheet: &[u8], bytes: &mut [u8]) -> Answer<usize> {
     answered(answer)
 }
 
+fn convert(sheet: &[u8], edition: u32, bytes: &mut [u8]) -> Answer<usize> {
+    // SAFETY: pointers and lengths are those of slices; the bytes are borrowed alone.
+    let answer = unsafe {
+        baseline_convert(
+            sheet.as_ptr(),
+            sheet.len(),
+            edition,
+            bytes.as_mut_ptr(),
+            bytes.len(),
+        )
+    };
+    answered(answer)
+}
+
 fn height(profile: &[i64], station: u64, height: &mut [i64]) -> Answer<usize> {
     // SAFETY: pointers and lengths are those of slices; the height is borrowed alone.
     let answer = unsafe {
@@ -143,14 +171,15 @@ mod tests {
     use super::*;
     use reference::points;
     use reference::profile;
+    use reference::samples::convert_edges::{self, ConvertCall};
     use reference::samples::dice::Dice;
     use reference::samples::point_edges::{edges, SurveyCall};
     use reference::samples::profile_edges::{self, ProfileCall};
     use reference::samples::profiles::random_profile;
     use reference::samples::roads::road;
     use reference::samples::sheet_edges;
-    use reference::samples::sheet_fields::{flip, sheet_of};
-    use reference::samples::sheets::{any_bytes, any_bytes_of_the_edition, any_entries};
+    use reference::samples::sheet_fields::{edition_said, flip, sheet_of_either};
+    use reference::samples::sheets::{any_bytes, any_bytes_of_an_edition, any_entries};
     use reference::sheet;
     use std::collections::BTreeSet;
 
@@ -223,13 +252,50 @@ mod tests {
         let refusals = rooms.map(|room| {
             let mut bytes = [vec![7; room], vec![7; room]];
             let answer = rewrite(sheet, &mut bytes[0]);
-            let line = sheet::read(sheet);
-            let expected = line.and_then(|line| sheet::write(&line, &mut bytes[1]));
+            let expected = sheet::rewrite(sheet, &mut bytes[1]);
             assert_eq!(answer, expected.map_err(Refused::from), "{sheet:02x?}");
             assert_eq!(bytes[0], bytes[1], "{sheet:02x?}");
             answer.map_or_else(|refused| refused.number, |_| 0)
         });
         refusals.into()
+    }
+
+    /// The same of the converter.
+    fn check_convert(sheet: &[u8], asked: u32, room: usize) -> u32 {
+        let mut bytes = [vec![7; room], vec![7; room]];
+        let answer = convert(sheet, asked, &mut bytes[0]);
+        let expected = sheet::convert(sheet, asked, &mut bytes[1]);
+        assert_eq!(answer, expected.map_err(Refused::from), "{sheet:02x?}");
+        assert_eq!(bytes[0], bytes[1], "{sheet:02x?}");
+        answer.map_or_else(|refused| refused.number, |_| 0)
+    }
+
+    #[test]
+    fn edges_of_conversions() {
+        let edges = convert_edges::edges(&mut Dice::new(1)).into_iter();
+        let answers = edges.map(|edge| {
+            let ConvertCall { sheet, asked, room } = edge.sample;
+            check_convert(&sheet, asked, room)
+        });
+        let mut every_answer = every_answer();
+        every_answer.insert(24);
+        assert_eq!(answers.collect::<BTreeSet<_>>(), every_answer);
+    }
+
+    /// Sheets of every count and either edition, as they are and with a bit changed.
+    #[test]
+    fn random_conversions() {
+        let mut dice = Dice::new(1);
+        for n in (0..=64).cycle().take(65 * 20) {
+            let road = road(&mut dice, n);
+            let mut sheet = sheet_of_either(&mut dice, &road);
+            for _ in 0..2 {
+                let asked = edition_said(&sheet).other().number;
+                check_convert(&sheet, asked, 706);
+                let bit = dice.index(0, 8 * sheet.len() - 1);
+                flip(&mut sheet, bit);
+            }
+        }
     }
 
     /// 0 for an accepted sheet, and all that a rewrite can be refused for.
@@ -251,7 +317,8 @@ mod tests {
         let mut dice = Dice::new(1);
         let mut answers = BTreeSet::new();
         for n in (0..=64).cycle().take(65 * 20) {
-            let mut sheet = sheet_of(&road(&mut dice, n));
+            let road = road(&mut dice, n);
+            let mut sheet = sheet_of_either(&mut dice, &road);
             answers.extend(check_rewrite(&sheet));
             answers.extend(check_rewrite(&sheet[..dice.index(0, sheet.len() - 1)]));
             answers.extend(check_rewrite(&[&sheet[..], &[0]].concat()));
@@ -260,7 +327,7 @@ mod tests {
                 flip(&mut sheet, bit);
                 answers.extend(check_rewrite(&sheet));
             }
-            for any in [any_bytes, any_bytes_of_the_edition, any_entries] {
+            for any in [any_bytes, any_bytes_of_an_edition, any_entries] {
                 answers.extend(check_rewrite(&any(&mut dice)));
             }
         }

@@ -1,15 +1,42 @@
 //! The library of the landing before, where POKYANDI_BEFORE named its folder when the
-//! bench was built: what it writes, rewrites and calculates.
+//! bench was built: what it reads, writes, rewrites, checks, prints and calculates. It
+//! is of edition 1 alone, and its writer is not told the edition.
 
 use crate::inputs::{Inputs, Road};
 use crate::job::{keep, Job, Task};
 use crate::measure::{sure, Work};
 use crate::side::Answer;
-use pokyandi::{Reason, Refusal, ELEMENT_NUMBERS, PEG_NUMBERS, ROW_NUMBERS, SHEET_BYTES};
+use pokyandi::{Reason, Refusal, ELEMENT_NUMBERS, LINE_NUMBERS, PEG_NUMBERS, ROW_NUMBERS};
+use pokyandi::{SHEET_BYTES, TEXT_BYTES};
 use reference::curve::Curve;
+use reference::points::Heading;
+use reference::samples::surveys::Survey;
 use std::hint::black_box;
 
 extern "C" {
+    fn before_read(
+        sheet: *const u8,
+        sheet_bytes: usize,
+        line: *mut u32,
+        line_numbers: usize,
+    ) -> u64;
+
+    fn before_check(sheet: *const u8, sheet_bytes: usize) -> u64;
+
+    fn before_text(sheet: *const u8, sheet_bytes: usize, text: *mut u8, text_bytes: usize) -> u64;
+
+    fn before_from_points(
+        speed: u32,
+        crossfall: u32,
+        start: u32,
+        points: *const i64,
+        point_numbers: usize,
+        curves: *const u32,
+        curve_numbers: usize,
+        line: *mut u32,
+        line_numbers: usize,
+    ) -> u64;
+
     fn before_write(
         line: *const u32,
         line_numbers: usize,
@@ -50,6 +77,8 @@ extern "C" {
 
 /// It keeps the buffers that its calls fill, as a [`crate::side::Side`] does.
 pub struct Before {
+    line: [u32; LINE_NUMBERS],
+    text: [u8; TEXT_BYTES],
     bytes: [u8; SHEET_BYTES],
     row: [u64; ROW_NUMBERS],
     peg: [i64; PEG_NUMBERS],
@@ -59,6 +88,8 @@ pub struct Before {
 impl Before {
     pub fn new() -> Before {
         Before {
+            line: [0; LINE_NUMBERS],
+            text: [0; TEXT_BYTES],
             bytes: [0; SHEET_BYTES],
             row: [0; ROW_NUMBERS],
             peg: [0; PEG_NUMBERS],
@@ -78,6 +109,25 @@ impl Before {
         Ok(&self.bytes[..count])
     }
 
+    fn read(&mut self, sheet: &[u8]) -> Answer<&[u32]> {
+        let count = read(sheet, &mut self.line)?;
+        Ok(&self.line[..count])
+    }
+
+    fn check(&mut self, sheet: &[u8]) -> Answer<usize> {
+        Ok(check(sheet)?)
+    }
+
+    fn text(&mut self, sheet: &[u8]) -> Answer<&[u8]> {
+        let count = text(sheet, &mut self.text)?;
+        Ok(&self.text[..count])
+    }
+
+    fn line_from_points(&mut self, survey: &Survey) -> Answer<&[u32]> {
+        let count = from_points(survey, &mut self.line)?;
+        Ok(&self.line[..count])
+    }
+
     fn stations(&mut self, sheet: &[u8]) -> Answer<&[u64]> {
         let count = stations(sheet, &mut self.row)?;
         Ok(&self.row[..count])
@@ -95,6 +145,44 @@ impl Before {
 }
 
 // The calls are bound as the library's are in another crate, and cost the same.
+
+#[inline(never)]
+fn read(sheet: &[u8], line: &mut [u32]) -> Result<usize, Refusal> {
+    // SAFETY: pointers and lengths are those of slices; the line is borrowed alone.
+    counted(unsafe { before_read(sheet.as_ptr(), sheet.len(), line.as_mut_ptr(), line.len()) })
+}
+
+#[inline(never)]
+fn check(sheet: &[u8]) -> Result<usize, Refusal> {
+    // SAFETY: pointer and length are those of a slice.
+    counted(unsafe { before_check(sheet.as_ptr(), sheet.len()) })
+}
+
+#[inline(never)]
+fn text(sheet: &[u8], text: &mut [u8]) -> Result<usize, Refusal> {
+    // SAFETY: pointers and lengths are those of slices; the text is borrowed alone.
+    counted(unsafe { before_text(sheet.as_ptr(), sheet.len(), text.as_mut_ptr(), text.len()) })
+}
+
+#[inline(never)]
+fn from_points(survey: &Survey, line: &mut [u32]) -> Result<usize, Refusal> {
+    let Heading { v, e, start } = survey.heading;
+    let (points, curves) = (&survey.points, &survey.curves);
+    // SAFETY: pointers and lengths are those of slices; the line is borrowed alone.
+    counted(unsafe {
+        before_from_points(
+            v,
+            e,
+            start,
+            points.as_ptr(),
+            points.len(),
+            curves.as_ptr(),
+            curves.len(),
+            line.as_mut_ptr(),
+            line.len(),
+        )
+    })
+}
 
 #[inline(never)]
 fn write(line: &[u32], bytes: &mut [u8]) -> Result<usize, Refusal> {
@@ -143,9 +231,20 @@ fn counted(answer: u64) -> Result<usize, Refusal> {
 pub fn work(job: Job, inputs: &Inputs, times: usize) -> Option<Work<'_>> {
     let mut before = Before::new();
     match job.task {
-        Task::Write | Task::Rewrite | Task::Stations | Task::Peg => Some(sure(move || {
+        Task::Read
+        | Task::Write
+        | Task::Rewrite
+        | Task::Stations
+        | Task::Peg
+        | Task::Check
+        | Task::Text => Some(sure(move || {
             for _ in 0..times {
                 each_road(job.task, &mut before, job.roads(inputs));
+            }
+        })),
+        Task::Points => Some(sure(move || {
+            for _ in 0..times {
+                each_survey(&mut before, job.surveys(inputs));
             }
         })),
         Task::Elements => Some(sure(move || {
@@ -162,16 +261,26 @@ fn each_road(task: Task, before: &mut Before, roads: &[Road]) {
         sheet,
         line,
         station,
+        ..
     } in roads
     {
         let sheet = black_box(&sheet[..]);
         match task {
+            Task::Read => keep(before.read(sheet)),
+            Task::Check => keep(before.check(sheet)),
+            Task::Text => keep(before.text(sheet)),
             Task::Write => keep(before.write(black_box(line))),
             Task::Rewrite => keep(before.rewrite(sheet)),
             Task::Stations => keep(before.stations(sheet)),
             Task::Peg => keep(before.peg(sheet, black_box(*station))),
             _ => unreachable!("the library before is not timed so"),
         }
+    }
+}
+
+fn each_survey(before: &mut Before, surveys: &[Survey]) {
+    for survey in surveys {
+        keep(before.line_from_points(black_box(survey)));
     }
 }
 

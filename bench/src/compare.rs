@@ -10,6 +10,7 @@ use crate::profiles::Height;
 use crate::reference_side::Reference;
 use crate::side::Side;
 use reference::curve::Curve;
+use reference::edition::{Edition, FIRST, SECOND};
 use reference::samples::surveys::Survey;
 use std::fmt::Debug;
 
@@ -38,6 +39,7 @@ fn compare_road(
     task: Task,
     Road {
         sheet,
+        second,
         line,
         station,
     }: &Road,
@@ -48,6 +50,10 @@ fn compare_road(
         Task::Read => same(library.read(sheet), reference.read(sheet)),
         Task::Write => compare_write(line, library, reference),
         Task::Rewrite => compare_rewrite(sheet, library, reference),
+        Task::RewriteSecond => compare_rewrite_of_either(second, library, reference),
+        Task::Convert => compare_convert(sheet, SECOND, library, reference),
+        Task::ConvertBack => compare_convert(second, FIRST, library, reference),
+        Task::Edition => same(library.edition(sheet), reference.edition(sheet)),
         Task::Stations => same(library.stations(sheet), reference.stations(sheet)),
         Task::Peg => same(library.peg(sheet, *station), reference.peg(sheet, *station)),
         Task::Check => same(library.check(sheet), reference.check(sheet)),
@@ -69,17 +75,44 @@ fn compare_write(
     same(answer, reference.write(line))
 }
 
-/// Fails when a sheet read and written again has two answers.
+/// Fails when a sheet of edition 1 read and written again has two answers.
 pub fn compare_rewrite(
     sheet: &[u8],
     library: &mut Library,
     reference: &mut Reference,
 ) -> Result<(), String> {
-    let answer = library.rewrite(sheet);
     #[cfg(before)]
-    same_as("the library before", answer, Before::new().rewrite(sheet))?;
+    same_as(
+        "the library before",
+        library.rewrite(sheet),
+        Before::new().rewrite(sheet),
+    )?;
+    compare_rewrite_of_either(sheet, library, reference)
+}
+
+/// The same of a sheet of either edition, which the library before may not know.
+fn compare_rewrite_of_either(
+    sheet: &[u8],
+    library: &mut Library,
+    reference: &mut Reference,
+) -> Result<(), String> {
+    let answer = library.rewrite(sheet);
     same(answer, reference.rewrite(sheet))?;
     same_as("the C baseline", answer, Baseline::new().rewrite(sheet))
+}
+
+/// Fails when a sheet brought to an edition has two answers.
+pub fn compare_convert(
+    sheet: &[u8],
+    asked: Edition,
+    library: &mut Library,
+    reference: &mut Reference,
+) -> Result<(), String> {
+    let answer = library.convert(sheet, asked.number);
+    same(answer, reference.convert(sheet, asked.number))?;
+    let mut baseline = Baseline::new();
+    let converted = baseline.convert(sheet, asked.number);
+    same_as("the C baseline", answer, converted)
 }
 
 fn compare_survey(

@@ -4,13 +4,15 @@
 use crate::profiles::Profiles;
 use crate::surveys::Surveys;
 use reference::curve::Curve;
+use reference::edition::{FIRST, SECOND};
 use reference::line::{Line, MOST_CURVES};
 use reference::pegs::stretches;
+use reference::samples::call::Callee::Writer;
+use reference::samples::call_edges::road_for;
 use reference::samples::dice::Dice;
-use reference::samples::roads::road;
-use reference::samples::sheet_fields::sheet_of;
+use reference::samples::sheet_fields::sheet_in;
 use reference::samples::station_cases::named_sheets;
-use reference::sheet::read;
+use reference::sheet;
 use std::cell::LazyCell;
 
 const SEED: u64 = 5;
@@ -37,9 +39,11 @@ pub struct Inputs {
     pub profiles: Profiles,
 }
 
-/// A sheet, its line in numbers, and the station of its peg.
+/// A sheet of edition 1, the same in edition 2, its line in numbers, and the station
+/// of its peg.
 pub struct Road {
     pub sheet: Vec<u8>,
+    pub second: Vec<u8>,
     pub line: Vec<u32>,
     pub station: u64,
 }
@@ -93,7 +97,12 @@ pub fn mountain_road() -> Vec<u8> {
 }
 
 fn random_sheets(dice: &mut Dice, curves: usize, count: usize) -> Vec<Vec<u8>> {
-    (0..count).map(|_| sheet_of(&road(dice, curves))).collect()
+    (0..count).map(|_| random_sheet(dice, curves)).collect()
+}
+
+/// The sheet of a road in edition 1.
+pub fn random_sheet(dice: &mut Dice, curves: usize) -> Vec<u8> {
+    sheet_in(FIRST, &road_for(dice, Writer(FIRST), curves))
 }
 
 fn roads_of(sheets: Vec<Vec<u8>>) -> Vec<Road> {
@@ -105,6 +114,7 @@ fn road_of(i: usize, sheet: Vec<u8>) -> Road {
     let line = line_of(&sheet);
     Road {
         sheet,
+        second: sheet_in(SECOND, &line),
         station: station_of(i, &line),
         line: line.numbers(),
     }
@@ -122,7 +132,7 @@ fn station_of(i: usize, line: &Line) -> u64 {
 }
 
 fn line_of(sheet: &[u8]) -> Line {
-    read(sheet).expect("the sheet is accepted")
+    sheet::line_of(sheet).expect("the sheet is accepted")
 }
 
 #[cfg(test)]

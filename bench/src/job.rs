@@ -4,6 +4,7 @@ use crate::baseline::Baseline;
 use crate::inputs::{Inputs, Road};
 use crate::profiles::Height;
 use crate::side::Side;
+use reference::edition::{FIRST, SECOND};
 use reference::samples::surveys::Survey;
 use std::hint::black_box;
 
@@ -13,6 +14,13 @@ pub enum Task {
     Read,
     Write,
     Rewrite,
+    /// Of sheets of edition 2.
+    RewriteSecond,
+    /// From edition 1 to 2.
+    Convert,
+    /// From edition 2 to 1.
+    ConvertBack,
+    Edition,
     Stations,
     Peg,
     Check,
@@ -27,7 +35,13 @@ impl Task {
     pub fn in_c(self) -> bool {
         matches!(
             self,
-            Task::Rewrite | Task::Points | Task::Height | Task::Elements
+            Task::Rewrite
+                | Task::RewriteSecond
+                | Task::Convert
+                | Task::ConvertBack
+                | Task::Points
+                | Task::Height
+                | Task::Elements
         )
     }
 }
@@ -53,7 +67,7 @@ pub struct Job {
     size: Size,
 }
 
-pub const JOBS: [Job; 26] = [
+pub const JOBS: [Job; 36] = [
     full("read-64", "read, 64 curves", Task::Read),
     full("write-64", "written, 64 curves", Task::Write),
     full("rewrite-64", "read and written, 64 curves", Task::Rewrite),
@@ -78,6 +92,24 @@ pub const JOBS: [Job; 26] = [
     straight("read-0", "read, no curve", Task::Read),
     straight("write-0", "written, no curve", Task::Write),
     straight("rewrite-0", "read and written, no curve", Task::Rewrite),
+    full("convert-64", "to edition 2, 64 curves", Task::Convert),
+    full("back-64", "to edition 1, 64 curves", Task::ConvertBack),
+    full("edition-64", "edition, 64 curves", Task::Edition),
+    full(
+        "rewrite-second-64",
+        "edition 2 rewritten, 64 curves",
+        Task::RewriteSecond,
+    ),
+    eight("convert-8", "to edition 2, 8 curves", Task::Convert),
+    eight("back-8", "to edition 1, 8 curves", Task::ConvertBack),
+    single("convert-1", "to edition 2, 1 curve", Task::Convert),
+    single("back-1", "to edition 1, 1 curve", Task::ConvertBack),
+    single("edition-1", "edition, 1 curve", Task::Edition),
+    single(
+        "rewrite-second-1",
+        "edition 2 rewritten, 1 curve",
+        Task::RewriteSecond,
+    ),
     full("points-64", "line from 66 points", Task::Points),
     single("points-1", "line from 3 points", Task::Points),
     full("height-32", "height, 32 vertices", Task::Height),
@@ -198,15 +230,21 @@ fn each_curve<S: Side>(side: &mut S, inputs: &Inputs) {
 fn each_road<S: Side>(task: Task, side: &mut S, roads: &[Road]) {
     for Road {
         sheet,
+        second,
         line,
         station,
     } in roads
     {
         let sheet = black_box(&sheet[..]);
+        let second = black_box(&second[..]);
         match task {
             Task::Read => keep(side.read(sheet)),
             Task::Write => keep(side.write(black_box(line))),
             Task::Rewrite => keep(side.rewrite(sheet)),
+            Task::RewriteSecond => keep(side.rewrite(second)),
+            Task::Convert => keep(side.convert(sheet, black_box(SECOND.number))),
+            Task::ConvertBack => keep(side.convert(second, black_box(FIRST.number))),
+            Task::Edition => keep(side.edition(sheet)),
             Task::Stations => keep(side.stations(sheet)),
             Task::Peg => keep(side.peg(sheet, black_box(*station))),
             Task::Check => keep(side.check(sheet)),
@@ -223,10 +261,8 @@ fn each_road<S: Side>(task: Task, side: &mut S, roads: &[Road]) {
 pub fn work_baseline(job: Job, baseline: &mut Baseline, inputs: &Inputs, times: usize) {
     for _ in 0..times {
         match job.task {
-            Task::Rewrite => {
-                for Road { sheet, .. } in job.roads(inputs) {
-                    keep(baseline.rewrite(black_box(&sheet[..])));
-                }
+            Task::Rewrite | Task::RewriteSecond | Task::Convert | Task::ConvertBack => {
+                each_road_in_c(job.task, baseline, job.roads(inputs));
             }
             Task::Points => {
                 for survey in job.surveys(inputs) {
@@ -243,6 +279,20 @@ pub fn work_baseline(job: Job, baseline: &mut Baseline, inputs: &Inputs, times: 
                     keep(baseline.elements(*black_box(curve)));
                 }
             }
+            _ => unreachable!("it is not timed in C"),
+        }
+    }
+}
+
+fn each_road_in_c(task: Task, baseline: &mut Baseline, roads: &[Road]) {
+    for Road { sheet, second, .. } in roads {
+        let sheet = black_box(&sheet[..]);
+        let second = black_box(&second[..]);
+        match task {
+            Task::Rewrite => keep(baseline.rewrite(sheet)),
+            Task::RewriteSecond => keep(baseline.rewrite(second)),
+            Task::Convert => keep(baseline.convert(sheet, black_box(SECOND.number))),
+            Task::ConvertBack => keep(baseline.convert(second, black_box(FIRST.number))),
             _ => unreachable!("it is not timed in C"),
         }
     }

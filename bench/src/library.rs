@@ -4,6 +4,7 @@ use crate::side::{Answer, Refused, Side};
 use pokyandi::{Refusal, ELEMENT_NUMBERS, HEIGHT_NUMBERS, LINE_NUMBERS, PEG_NUMBERS};
 use pokyandi::{ROW_NUMBERS, SHEET_BYTES, TEXT_BYTES};
 use reference::curve::Curve;
+use reference::edition::FIRST;
 use reference::points::Heading;
 use reference::samples::surveys::Survey;
 
@@ -47,7 +48,16 @@ impl Side for Library {
     }
 
     fn write(&mut self, line: &[u32]) -> Answer<&[u8]> {
-        let count = pokyandi::write(line, &mut self.bytes)?;
+        let count = pokyandi::write(FIRST.number, line, &mut self.bytes)?;
+        Ok(&self.bytes[..count])
+    }
+
+    fn edition(&mut self, sheet: &[u8]) -> Answer<u32> {
+        Ok(pokyandi::edition(sheet)?)
+    }
+
+    fn convert(&mut self, sheet: &[u8], edition: u32) -> Answer<&[u8]> {
+        let count = pokyandi::convert(sheet, edition, &mut self.bytes)?;
         Ok(&self.bytes[..count])
     }
 

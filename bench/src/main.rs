@@ -1,5 +1,5 @@
 //! Times the proved library against the reference, and against plain C for a sheet
-//! rewritten, a line from points, a height and the elements of one curve.
+//! rewritten or converted, a line from points, a height and the elements of one curve.
 
 mod archive;
 mod arguments;

@@ -5,6 +5,7 @@
 use crate::side::{Answer, Refused, Side};
 use pokyandi::{HEIGHT_NUMBERS, LINE_NUMBERS, ROW_NUMBERS, SHEET_BYTES};
 use reference::curve::Curve;
+use reference::edition::FIRST;
 use reference::elements::{elements, Elements};
 use reference::line_numbers;
 use reference::pegs::{peg, PEG_NUMBERS};
@@ -63,24 +64,32 @@ impl Side for Reference {
     }
 
     fn write(&mut self, line: &[u32]) -> Answer<&[u8]> {
-        let count = line_numbers::write(line, &mut self.bytes)?;
+        let count = line_numbers::write(FIRST.number, line, &mut self.bytes)?;
+        Ok(&self.bytes[..count])
+    }
+
+    fn edition(&mut self, sheet: &[u8]) -> Answer<u32> {
+        Ok(sheet::edition_of(sheet)?.number)
+    }
+
+    fn convert(&mut self, sheet: &[u8], edition: u32) -> Answer<&[u8]> {
+        let count = sheet::convert(sheet, edition, &mut self.bytes)?;
         Ok(&self.bytes[..count])
     }
 
     fn rewrite(&mut self, sheet: &[u8]) -> Answer<&[u8]> {
-        let line = sheet::read(sheet)?;
-        let count = sheet::write(&line, &mut self.bytes)?;
+        let count = sheet::rewrite(sheet, &mut self.bytes)?;
         Ok(&self.bytes[..count])
     }
 
     fn stations(&mut self, sheet: &[u8]) -> Answer<&[u64]> {
-        let line = sheet::read(sheet)?;
+        let line = sheet::line_of(sheet)?;
         let count = stations(&line, &mut self.row)?;
         Ok(&self.row[..count])
     }
 
     fn peg(&mut self, sheet: &[u8], station: u64) -> Answer<&[i64]> {
-        let line = sheet::read(sheet)?;
+        let line = sheet::line_of(sheet)?;
         let count = peg(&line, station, &mut self.peg)?;
         Ok(&self.peg[..count])
     }

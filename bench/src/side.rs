@@ -18,8 +18,14 @@ pub trait Side {
     /// The sheet's line in numbers.
     fn read(&mut self, sheet: &[u8]) -> Answer<&[u32]>;
 
-    /// The sheet of a line in numbers.
+    /// The sheet of a line in numbers, in edition 1.
     fn write(&mut self, line: &[u32]) -> Answer<&[u8]>;
+
+    /// The edition of a sheet.
+    fn edition(&mut self, sheet: &[u8]) -> Answer<u32>;
+
+    /// The sheet in the edition asked for.
+    fn convert(&mut self, sheet: &[u8], edition: u32) -> Answer<&[u8]>;
 
     /// The sheet read and written again.
     fn rewrite(&mut self, sheet: &[u8]) -> Answer<&[u8]>;
