@@ -22,7 +22,8 @@ const SPIRAL_BITS: u32 = 19;
 /// The bytes in which the heading of either edition stands, edition to start.
 const HEADING_LENGTH: usize = 7;
 
-/// Bits of a sheet of `n` curves, without the fill.
+/// Bits of a sheet of `n` curves, without the fill: 75 + 87 × n in edition 1, 79 +
+/// 87 × n in edition 2.
 const fn bit_count(edition: Edition, n: usize) -> usize {
     47 + edition.start_bits as usize + 87 * n
 }
@@ -117,8 +118,8 @@ pub fn rewrite(sheet: &[u8], bytes: &mut [u8]) -> Result<usize, Refusal> {
 
 /// The converter: writes the sheet of the same line in the edition asked for at the
 /// front of the bytes, and returns its length. After the reader's refusals 2 for any
-/// edition but the other one, 24 for a start beyond the first, then 16 (document 02,
-/// Roads past kilometre 200).
+/// edition but the other one, 24 the way back for a start over edition 1's greatest,
+/// then 16 (document 02, Roads past kilometre 200).
 pub fn convert(sheet: &[u8], asked: u32, bytes: &mut [u8]) -> Result<usize, Refusal> {
     let (edition, line) = read(sheet)?;
     let other = edition.other();

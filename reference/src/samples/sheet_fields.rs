@@ -167,6 +167,12 @@ pub fn editions_for(line: &Line) -> &'static [Edition] {
     }
 }
 
+/// One of them, by turns.
+pub fn edition_in_turn(turn: usize, line: &Line) -> Edition {
+    let editions = editions_for(line);
+    editions[turn % editions.len()]
+}
+
 /// The sheet of a line that the writer takes, in the first edition that takes its
 /// start.
 pub fn sheet_of(line: &Line) -> Vec<u8> {
@@ -282,6 +288,9 @@ mod tests {
         }
         assert_eq!(editions_for(&with_start(0)), EDITIONS);
         assert_eq!(editions_for(&with_start(u32::MAX)), [SECOND]);
+        let in_turn = |start| [0, 1, 2].map(|turn| edition_in_turn(turn, &with_start(start)));
+        assert_eq!(in_turn(0), [FIRST, SECOND, FIRST]);
+        assert_eq!(in_turn(u32::MAX), [SECOND; 3]);
         let mut dice = Dice::new(1);
         let mut either = || EDITION.value(&sheet_of_either(&mut dice, &Line::case_1()));
         let numbers: Vec<u32> = (0..20).map(|_| either()).collect();

@@ -11,7 +11,7 @@ use super::near_limits::{
 use super::roads::road;
 use super::sheet_edges::NamedSheet;
 use super::sheet_faults::{cut, flip_any, lengthen};
-use super::sheet_fields::{editions_for, sheet_in, sheet_of_any, sheet_of_either};
+use super::sheet_fields::{edition_in_turn, sheet_in, sheet_of_any, sheet_of_either};
 use super::sheets::{any_bytes, any_bytes_of_an_edition, any_entries};
 use super::station_cases::document_cases;
 use super::station_faults::{any_fault, any_place, faulty_sheet, first_place};
@@ -48,10 +48,8 @@ fn edges(dice: &mut Dice) -> Vec<Vec<u8>> {
     lines.dedup();
     let without_names = |edges: Vec<NamedSheet>| edges.into_iter().map(|edge| edge.sample);
     let mut sheets: Vec<Vec<u8>> = without_names(sheet_edges::edges(dice)).collect();
-    sheets.extend(lines.iter().enumerate().filter_map(|(i, line)| {
-        let editions = editions_for(line);
-        sheet_of_any(editions[i % editions.len()], line)
-    }));
+    let lines = lines.iter().enumerate();
+    sheets.extend(lines.filter_map(|(i, line)| sheet_of_any(edition_in_turn(i, line), line)));
     sheets.extend(without_names(full_length_edges(dice)));
     sheets
 }

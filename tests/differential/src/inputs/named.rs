@@ -18,7 +18,7 @@ use reference::samples::peg_edges;
 use reference::samples::point_edges;
 use reference::samples::profile_edges;
 use reference::samples::sheet_edges;
-use reference::samples::sheet_fields::{editions_for, sheet_in, sheet_of_any};
+use reference::samples::sheet_fields::{edition_in_turn, editions_for, sheet_in, sheet_of_any};
 use reference::samples::station_cases::named_sheets;
 use reference::samples::station_sheets::full_length_edges;
 use reference::samples::writer_edges;
@@ -216,8 +216,7 @@ fn pegs(dice: &mut Dice) -> Vec<NamedRequest> {
     let edges = peg_edges::edges(dice).into_iter().enumerate();
     let requests = edges.map(|(i, edge)| {
         request_of(edge, |call| {
-            let editions = editions_for(&call.line);
-            let sheet = sheet_in(editions[i % editions.len()], &call.line);
+            let sheet = sheet_in(edition_in_turn(i, &call.line), &call.line);
             (Request::Peg(sheet, call.station), Room::Entries(call.room))
         })
     });

@@ -160,8 +160,7 @@ mod tests {
         assert!(accepted_counts.len() >= 45, "{accepted_counts:?}");
     }
 
-    /// Accepted sheets of both editions, of edition 2 also with starts that only it
-    /// holds.
+    /// How often sheets are refused, and read in which edition.
     #[test]
     fn both_editions() {
         let mut dice = Dice::new(1);
