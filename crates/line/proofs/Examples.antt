@@ -10,7 +10,7 @@ use Rattle.refusals.specs.Order.{_⨾_, outcome}
 use Rattle.line.specs.declared.Curve.{Curve}
 use Rattle.line.specs.declared.Line.{Line}
 use Rattle.line.specs.Entries.{lineAfter}
-use Rattle.line.specs.Checks.{startCheck, headChecks, distanceCheck, curveChecks, bodyChecks, lineChecks}
+use Rattle.line.specs.Checks.{startCheck, headChecks, distanceCheck, curveChecks, bodyChecks, fieldChecks, lineChecks}
 
 -- A curve with radius R and spiral length L.
 abbrev curve : ℕ → ℕ → ℕ → Curve
@@ -33,17 +33,19 @@ pub record Examples : Type 0 where
   pub curve-64 : outcome (lineChecks (lineOf 64 0 (replicate 64 500000 ++ (0 ∷ [])) (replicate 63 good ++ (curve 1 350000 350001 ∷ [])))) ≡ refused 11 64
   pub distance-before-curve : outcome (lineChecks (lineOf 64 0 (replicate 65 0) (replicate 64 bad))) ≡ refused 8 0
   pub deflection-before-radius : outcome (lineChecks (lineOf 64 0 (replicate 65 500000) (replicate 64 bad))) ≡ refused 9 1
-  pub start-before-distance : outcome (lineChecks (lineOf 64 200000001 (replicate 65 0) (replicate 64 bad))) ≡ refused 6 0
-  pub count-before-start : outcome (lineChecks (lineOf 65 200000001 (replicate 65 0) (replicate 64 bad))) ≡ refused 3 0
+  pub start-before-distance : outcome (lineChecks (lineOf 64 4000000001 (replicate 65 0) (replicate 64 bad))) ≡ refused 6 0
+  pub count-before-start : outcome (lineChecks (lineOf 65 4000000001 (replicate 65 0) (replicate 64 bad))) ≡ refused 3 0
   pub after-a-refusal : lineAfter (refused 8 0) (lineOf 1 0 (1 ∷ replicate 64 0) (replicate 64 good))
       ≡ record { speed = 0; crossfall = 0; start = 0; count = 0; distances = replicate 65 0; curves = replicate 64 (curve 0 0 0) }
-  pub greatest-fields : outcome (headChecks 64 120 12 200000000 ⨾ distanceCheck 20000000 64 ⨾ curveChecks 432000 5000000 500000 64) ≡ passed
-  pub least-fields : outcome (headChecks 0 40 2 0 ⨾ distanceCheck 1 0 ⨾ curveChecks 1 20000 20000 1) ≡ passed
+  pub greatest-start : outcome (lineChecks (lineOf 64 4000000000 (replicate 65 500000) (replicate 64 good))) ≡ passed
+  pub other-greatest : outcome (fieldChecks 200000000 (lineOf 64 200000001 (replicate 65 0) (replicate 64 bad))) ≡ refused 6 0
+  pub greatest-fields : outcome (headChecks 200000000 64 120 12 200000000 ⨾ distanceCheck 20000000 64 ⨾ curveChecks 432000 5000000 500000 64) ≡ passed
+  pub least-fields : outcome (headChecks 0 0 40 2 0 ⨾ distanceCheck 1 0 ⨾ curveChecks 1 20000 20000 1) ≡ passed
   pub radius-before-spiral : outcome (curveChecks 1 19999 500001 7) ≡ refused 10 7
   pub unused-entries : outcome (lineChecks (lineOf 0 0 (1 ∷ replicate 64 0) (replicate 64 bad))) ≡ passed
 
 pub examples : Examples
-unfolding startCheck headChecks distanceCheck curveChecks bodyChecks lineChecks
+unfolding startCheck headChecks distanceCheck curveChecks bodyChecks fieldChecks
 examples =
     record {
       full-line = refl;
@@ -54,6 +56,8 @@ examples =
       start-before-distance = refl;
       count-before-start = refl;
       after-a-refusal = refl;
+      greatest-start = refl;
+      other-greatest = refl;
       greatest-fields = refl;
       least-fields = refl;
       radius-before-spiral = refl;

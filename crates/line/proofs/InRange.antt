@@ -12,8 +12,8 @@ use Rattle.numbers.proofs.Tests.{both-left, both-right}
 use Rattle.line.specs.declared.Line.{Line}
 use Rattle.refusals.specs.Outcomes.{passed, need}
 use Rattle.refusals.specs.Order.{outcome}
-use Rattle.line.specs.Checks.{within, greatestStart, startCheck, headChecks, distanceCheck, curveChecks, distanceAt, curveAt, bodyChecks, lineChecks}
-use Rattle.line.specs.Ranges.{CurveInRange, LineInRange}
+use Rattle.line.specs.Checks.{within, startCheck, headChecks, distanceCheck, curveChecks, distanceAt, curveAt, bodyChecks, fieldChecks}
+use Rattle.line.specs.Ranges.{CurveInRange, FieldsInRange}
 use Rattle.refusals.proofs.Joining.{passed-left, passed-right, need-holds}
 
 within-least : (least most x : ℕ) → within least most x ≡ true → least ≤ x
@@ -86,31 +86,31 @@ last-curve l i e =
 
 -- ---- the head, and a whole line
 
-pub few-curves : (n v e s : ℕ) → outcome (headChecks n v e s) ≡ passed → n ≤ 64
+pub few-curves : (g n v e s : ℕ) → outcome (headChecks g n v e s) ≡ passed → n ≤ 64
 unfolding headChecks
-few-curves n v e s h = leb-true n 64 (need-holds _ 3 0 (passed-left (need (leb n 64) 3 0) _ h))
+few-curves g n v e s h = leb-true n 64 (need-holds _ 3 0 (passed-left (need (leb n 64) 3 0) _ h))
 
-pub line-in-range : (l : Line) → outcome (lineChecks l) ≡ passed → LineInRange l
-unfolding lineChecks headChecks startCheck
-line-in-range l h =
+pub line-in-range : {g : ℕ} (l : Line) → outcome (fieldChecks g l) ≡ passed → FieldsInRange g l
+unfolding fieldChecks headChecks startCheck
+line-in-range {g} l h =
     let n = l .count in
     let v = l .speed in
     let e = l .crossfall in
-    let head = passed-left (outcome (headChecks n v e (l .start))) _ h in
-    let body = passed-right (outcome (headChecks n v e (l .start))) (outcome (bodyChecks l n)) h in
+    let head = passed-left (outcome (headChecks g n v e (l .start))) _ h in
+    let body = passed-right (outcome (headChecks g n v e (l .start))) (outcome (bodyChecks l n)) h in
     let h₁ = passed-right (need (leb n 64) 3 0) _ head in
     let speed = need-holds (within 40 120 v && eqb (v % 10) 0) 4 0 (passed-left (need (within 40 120 v && eqb (v % 10) 0) 4 0) _ h₁) in
     let h₂ = passed-right (need (within 40 120 v && eqb (v % 10) 0) 4 0) _ h₁ in
     let fall = need-holds (within 2 12 e) 5 0 (passed-left (need (within 2 12 e) 5 0) _ h₂) in
-    let start = need-holds (leb (l .start) greatestStart) 6 0 (passed-right (need (within 2 12 e) 5 0) _ h₂) in
+    let start = need-holds (leb (l .start) g) 6 0 (passed-right (need (within 2 12 e) 5 0) _ h₂) in
     record {
-      few = few-curves n v e (l .start) head;
+      few = few-curves g n v e (l .start) head;
       speed-least = within-least 40 120 v (both-left _ (eqb (v % 10) 0) speed);
       speed-most = within-most 40 120 v (both-left _ (eqb (v % 10) 0) speed);
       speed-tens = eqb-true (v % 10) 0 (both-right (within 40 120 v) _ speed);
       crossfall-least = within-least 2 12 e fall;
       crossfall-most = within-most 2 12 e fall;
-      start-most = leb-true (l .start) greatestStart start;
+      start-most = leb-true (l .start) g start;
       distance-least = λ i m. within-least 1 20000000 (distanceAt l i) (last-distance l i (body-below l n i m body));
       distance-most = λ i m. within-most 1 20000000 (distanceAt l i) (last-distance l i (body-below l n i m body));
       curve = λ i m. last-curve l i (body-below l n (suc i) m body);
@@ -120,7 +120,7 @@ line-in-range l h =
 within-holds : (least most x : ℕ) → least ≤ x → x ≤ most → within least most x ≡ true
 within-holds least most x l h = rw (le-leb least x l, le-leb x most h)
 
-body-passes : (l : Line) → LineInRange l → (i : ℕ) → i ≤ l .count → outcome (bodyChecks l i) ≡ passed
+body-passes : {g : ℕ} (l : Line) → FieldsInRange g l → (i : ℕ) → i ≤ l .count → outcome (bodyChecks l i) ≡ passed
 unfolding bodyChecks distanceCheck
 body-passes l ok zero h = rw (within-holds 1 20000000 (distanceAt l 0) (ok .distance-least 0 h) (ok .distance-most 0 h))
 body-passes l ok (suc i) h =
@@ -131,14 +131,14 @@ body-passes l ok (suc i) h =
       within-holds 1 20000000 (distanceAt l (suc i)) (ok .distance-least (suc i) h) (ok .distance-most (suc i) h),
     )
 
-pub line-passes : (l : Line) → LineInRange l → outcome (lineChecks l) ≡ passed
-unfolding lineChecks headChecks startCheck
-line-passes l ok =
+pub line-passes : {g : ℕ} (l : Line) → FieldsInRange g l → outcome (fieldChecks g l) ≡ passed
+unfolding fieldChecks headChecks startCheck
+line-passes {g} l ok =
     rw (
       le-leb (l .count) 64 (ok .few),
       within-holds 40 120 (l .speed) (ok .speed-least) (ok .speed-most),
       eq-eqb (l .speed % 10) 0 (ok .speed-tens),
       within-holds 2 12 (l .crossfall) (ok .crossfall-least) (ok .crossfall-most),
-      le-leb (l .start) greatestStart (ok .start-most),
+      le-leb (l .start) g (ok .start-most),
     )
     (body-passes l ok (l .count) (omega arith))

@@ -3,7 +3,7 @@ use Prim.Native.Nat.{ℕ, zero, suc, _≤_}
 use native.Mathlib.Omega.{arith}
 use Rattle.refusals.proofs.Numbers.{Refuses}
 use Rattle.line.specs.declared.Line.{Line}
-use Rattle.line.specs.Checks.{startCheck, headChecks, distanceCheck, curveChecks, distanceAt, curveAt, bodyChecks, lineChecks}
+use Rattle.line.specs.Checks.{startCheck, headChecks, distanceCheck, curveChecks, distanceAt, curveAt, bodyChecks, fieldChecks}
 
 module _ (far : ℕ) where
   distance-numbers : (distance index : ℕ) → index ≤ far → Refuses 3 11 far (distanceCheck distance index)
@@ -14,9 +14,9 @@ module _ (far : ℕ) where
   unfolding curveChecks
   curve-numbers A R L place h = ((omega arith, omega arith, h), λ _. ((omega arith, omega arith, h), λ _. (omega arith, omega arith, h)))
 
-  pub head-numbers : (n v e s : ℕ) → Refuses 3 11 far (headChecks n v e s)
+  pub head-numbers : (g n v e s : ℕ) → Refuses 3 11 far (headChecks g n v e s)
   unfolding headChecks startCheck
-  head-numbers n v e s =
+  head-numbers g n v e s =
       ((omega arith, omega arith, omega arith), λ _. ((omega arith, omega arith, omega arith), λ _. ((omega arith, omega arith, omega arith), λ _. (omega arith, omega arith, omega arith))))
 
   pub body-numbers : (line : Line) (i : ℕ) → i ≤ far → Refuses 3 11 far (bodyChecks line i)
@@ -26,8 +26,8 @@ module _ (far : ℕ) where
       let c = curveAt line i in
       (body-numbers line i (omega arith), λ _. (curve-numbers (c .deflection) (c .radius) (c .spiral) (suc i) h, λ _. distance-numbers (distanceAt line (suc i)) (suc i) h))
 
-pub line-numbers : (line : Line) → Refuses 3 11 (line .count) (lineChecks line)
-unfolding lineChecks
-line-numbers line =
+pub line-numbers : (g : ℕ) (line : Line) → Refuses 3 11 (line .count) (fieldChecks g line)
+unfolding fieldChecks
+line-numbers g line =
     let n = line .count in
-    (head-numbers n n (line .speed) (line .crossfall) (line .start), λ _. body-numbers n line n (omega arith))
+    (head-numbers n g n (line .speed) (line .crossfall) (line .start), λ _. body-numbers n line n (omega arith))

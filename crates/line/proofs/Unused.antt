@@ -5,7 +5,7 @@ use native.Mathlib.Omega.{arith}
 use Rattle.refusals.specs.Order.{outcome}
 use Rattle.line.specs.declared.Curve.{Curve}
 use Rattle.line.specs.declared.Line.{Line}
-use Rattle.line.specs.Checks.{distanceAt, blankCurve, curveAt, bodyChecks, lineChecks}
+use Rattle.line.specs.Checks.{distanceAt, blankCurve, curveAt, bodyChecks, fieldChecks}
 use Rattle.line.specs.Entries.{cleared}
 use Rattle.line.specs.Ranges.{AlikeWhereUsed}
 use Rattle.line.proofs.Entries.{entries-get}
@@ -23,9 +23,9 @@ module _ (l m : Line) (alike : AlikeWhereUsed l m) where
         alike .distance (suc i) h,
       )
 
-  pub unused-ignored : outcome (lineChecks l) ≡ outcome (lineChecks m)
-  unfolding lineChecks
-  unused-ignored =
+  pub unused-ignored : (g : ℕ) → outcome (fieldChecks g l) ≡ outcome (fieldChecks g m)
+  unfolding fieldChecks
+  unused-ignored g =
       rw (same-body (l .count) (omega arith), alike .count, alike .speed, alike .crossfall, alike .start)
 
 -- ---- a line and the same with its unused entries zero

@@ -11,25 +11,25 @@ use Rattle.refusals.specs.Order.{Checks, check, _⨾_}
 abbrev pub within : ℕ → ℕ → ℕ → Bool
 within least most x = leb least x && leb x most
 
--- "start station, 0 to 200,000,000 mm"
+-- "the calculator's is for a start over 4,000,000,000" (document 02, N6): a line's greatest start, in mm; a sheet's follows its edition
 abbrev pub greatestStart : ℕ
-greatestStart = 200000000
+greatestStart = 4000000000
 
 -- 4: V "40, 50, .. 120 only"
 abbrev pub speedCheck : ℕ → Checks
 speedCheck speed = check (within 40 120 speed && eqb (speed % 10) 0) 4 0
 
--- 6: the start
-unfoldable pub startCheck : ℕ → Checks
-startCheck start = check (leb start greatestStart) 6 0
+-- 6: the start, over the greatest
+unfoldable pub startCheck : (greatest start : ℕ) → Checks
+startCheck greatest start = check (leb start greatest) 6 0
 
 -- 3 to 6: "n curves (0 to 64)", V, e "2 to 12", the start
-unfoldable pub headChecks : ℕ → ℕ → ℕ → ℕ → Checks
-headChecks count speed crossfall start =
+unfoldable pub headChecks : (greatest count speed crossfall start : ℕ) → Checks
+headChecks greatest count speed crossfall start =
     check (leb count 64) 3 0
     ⨾ speedCheck speed
     ⨾ check (within 2 12 crossfall) 5 0
-    ⨾ startCheck start
+    ⨾ startCheck greatest start
 
 -- 8: "1 to 20,000,000 mm"
 unfoldable pub distanceCheck : ℕ → ℕ → Checks
@@ -62,8 +62,12 @@ bodyChecks line (suc i) =
     ⨾ curveChecks (curveAt line i .deflection) (curveAt line i .radius) (curveAt line i .spiral) (suc i)
     ⨾ distanceCheck (distanceAt line (suc i)) (suc i)
 
--- Those of a line's fields: "3 to 6, 8 to 11 likewise"
-unfoldable pub lineChecks : Line → Checks
-lineChecks line =
-    headChecks (line .count) (line .speed) (line .crossfall) (line .start)
+-- Those of a line's fields, its start up to the greatest: "3 to 6, 8 to 11 likewise"
+unfoldable pub fieldChecks : (greatest : ℕ) → Line → Checks
+fieldChecks greatest line =
+    headChecks greatest (line .count) (line .speed) (line .crossfall) (line .start)
     ⨾ bodyChecks line (line .count)
+
+-- Those of a line that is worked on, of whatever sheet or none.
+abbrev pub lineChecks : Line → Checks
+lineChecks line = fieldChecks greatestStart line

@@ -13,18 +13,22 @@ pub record CurveInRange (A R L : ℕ) : Type 0 where
   pub L-most : L ≤ 500000
   pub L-to-R : L ≤ R
 
--- A line whose fields pass 3 to 6 and 8 to 11.
-pub record LineInRange (line : Line) : Type 0 where
+-- A line whose fields pass 3 to 6 and 8 to 11, its start up to the greatest.
+pub record FieldsInRange (greatest : ℕ) (line : Line) : Type 0 where
   pub few : line .count ≤ 64
   pub speed-least : 40 ≤ line .speed
   pub speed-most : line .speed ≤ 120
   pub speed-tens : line .speed % 10 ≡ 0
   pub crossfall-least : 2 ≤ line .crossfall
   pub crossfall-most : line .crossfall ≤ 12
-  pub start-most : line .start ≤ greatestStart
+  pub start-most : line .start ≤ greatest
   pub distance-least : (i : ℕ) → i ≤ line .count → 1 ≤ distanceAt line i
   pub distance-most : (i : ℕ) → i ≤ line .count → distanceAt line i ≤ 20000000
   pub curve : (i : ℕ) → i < line .count → CurveInRange (curveAt line i .deflection) (curveAt line i .radius) (curveAt line i .spiral)
+
+-- A line that passes them where lines are worked on.
+abbrev pub LineInRange : Line → Type 0
+LineInRange line = FieldsInRange greatestStart line
 
 -- Two lines with the same fields and the same used entries, the sides of the curves apart.
 pub record AlikeWhereUsed (l m : Line) : Type 0 where

@@ -4,7 +4,7 @@ ghost use mathlib.Core.Bool.{_&&_};
 ghost use Prim.Native.Nat.{_≤_};
 ghost use Rattle.refusals.specs.Outcomes.{outcomeOf, _▹_};
 ghost use Rattle.refusals.specs.Order.{outcome};
-ghost use Rattle.line.specs.Checks.{within, speedCheck, startCheck, headChecks, distanceCheck, curveChecks, bodyChecks, lineChecks};
+ghost use Rattle.line.specs.Checks.{within, speedCheck, startCheck, headChecks, distanceCheck, curveChecks, bodyChecks, fieldChecks, lineChecks};
 use crate::Curve;
 use crate::Line;
 use refusals::Refusal;
@@ -33,22 +33,22 @@ pub fn check_speed(speed: u64) -> Verdict
     must(both(ranged, speed % 10 == 0), Refusal::Speed)
 }
 
-// Refusal 6: the start station, in mm.
-fn check_start(start: u32) -> Verdict
-    ensures { λ r. ⌜ outcomeOf r ≡ outcome (startCheck start) ⌝ }
+// Refusal 6: the start station, in mm, up to the greatest.
+fn check_start(greatest: u32, start: u32) -> Verdict
+    ensures { λ r. ⌜ outcomeOf r ≡ outcome (startCheck greatest start) ⌝ }
 {
-    must(start <= 200000000, Refusal::Start)
+    must(start <= greatest, Refusal::Start)
 }
 
 // The first of refusals 3 to 6: the number of curves, the design speed in km/h, the crossfall in
-// percent and the start station in mm.
-pub fn check_head(count: usize, speed: u32, crossfall: u32, start: u32) -> Verdict
-    ensures { λ r. ⌜ outcomeOf r ≡ outcome (headChecks count speed crossfall start) ⌝ }
+// percent and the start station in mm, up to the greatest.
+pub fn check_head(greatest: u32, count: usize, speed: u32, crossfall: u32, start: u32) -> Verdict
+    ensures { λ r. ⌜ outcomeOf r ≡ outcome (headChecks greatest count speed crossfall start) ⌝ }
 {
     let n = must(count <= 64, Refusal::CurveCount);
     let v = check_speed(speed as u64);
     let e = must(between(2, 12, crossfall), Refusal::Crossfall);
-    let s = check_start(start);
+    let s = check_start(greatest, start);
     first(n, first(v, first(e, s)))
 }
 
@@ -106,13 +106,20 @@ fn check_body(line: Line) -> Verdict
     Verdict::Pass
 }
 
-// The first refusal of a line's fields: 3 to 6, then 8 to 11 in sheet order. Unused entries are ignored.
-pub fn check_line(line: Line) -> Verdict
-    ensures { λ r. ⌜ outcomeOf r ≡ outcome (lineChecks line) ⌝ }
+// The first refusal of a line's fields, its start up to `greatest` mm: 3 to 6, then 8 to 11 in sheet order. Unused entries are ignored.
+pub fn check_fields(greatest: u32, line: Line) -> Verdict
+    ensures { λ r. ⌜ outcomeOf r ≡ outcome (fieldChecks greatest line) ⌝ }
 {
-    let head = check_head(line.count, line.speed, line.crossfall, line.start);
+    let head = check_head(greatest, line.count, line.speed, line.crossfall, line.start);
     let Verdict::Pass = head else {
         return head;
     };
     check_body(line)
+}
+
+// The same of a line that is worked on, of whatever sheet or none.
+pub fn check_line(line: Line) -> Verdict
+    ensures { λ r. ⌜ outcomeOf r ≡ outcome (lineChecks line) ⌝ }
+{
+    check_fields(4000000000, line)
 }

@@ -5,6 +5,7 @@ ghost use mathlib.Core.Path.{_≡_};
 ghost use Rattle.line.specs.Entries.{sideBit, blankLine};
 pub use checks::check_curve;
 pub use checks::check_distance;
+pub use checks::check_fields;
 pub use checks::check_head;
 pub use checks::check_line;
 pub use checks::check_speed;

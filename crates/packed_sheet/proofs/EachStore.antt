@@ -7,7 +7,7 @@ use native.Mathlib.Decide.{decLe}
 use native.Mathlib.Omega.{arith}
 use lib.ListN.{length, drop, getD, set}
 use Rattle.line.specs.declared.Line.{Line}
-use Rattle.packed_sheet.specs.Layout.{Edition}
+use Rattle.packed_sheet.specs.declared.Edition.{Edition}
 use Rattle.packed_sheet.specs.Writing.{sheetOf}
 use Rattle.packed_sheet.specs.EachStore.{soFar, Store, Stores, none, more, StoreOf}
 use Rattle.packed_sheet.proofs.SoFar.{at-first, at-last, still, one-byte, stores-then, stored}

@@ -7,10 +7,11 @@ use native.Mathlib.Omega.{arith}
 use lib.ListN.{length, take, drop, getD}
 use Rattle.line.specs.declared.Line.{Line}
 use Rattle.line.specs.Checks.{distanceAt}
-use Rattle.line.specs.Ranges.{LineInRange}
+use Rattle.line.specs.Ranges.{FieldsInRange}
 use Rattle.bits.specs.Bits.{bitsAt, valuesAt, packed, total}
 use Rattle.bits.proofs.Words.{two-parts, as-one}
-use Rattle.packed_sheet.specs.Layout.{Edition, Holds, headWidths, distanceWidth, entryWidths, entryAt, fillWidth}
+use Rattle.packed_sheet.specs.declared.Edition.{Edition}
+use Rattle.packed_sheet.specs.Layout.{Holds, headWidths, distanceWidth, entryWidths, entryAt, fillWidth}
 use Rattle.packed_sheet.specs.Writing.{headValues, entryValues, sheetOf}
 use Rattle.packed_sheet.proofs.WaysOut.{sheet-length}
 use Rattle.packed_sheet.proofs.ReadAgain.{head-fields-again, entry-again, last-again}
@@ -19,7 +20,7 @@ use Rattle.packed_sheet.proofs.ReadAgain.{head-fields-again, entry-agai
 group : (s : List ℕ) (from : ℕ) (ws vs : List ℕ) → from + total ws ≤ 8 * length s → valuesAt s from ws ≡ vs → packed 0 ws vs ≡ bitsAt s from (total ws)
 group s from ws vs h e = ap (packed 0 ws) (sym e) ∙ as-one s 0 from ws h ∙ rw (zero-mul, zero-add)
 
-module _ (E : Edition) (holds : Holds E) (line : Line) (ok : LineInRange line) where
+module _ (E : Edition) (holds : Holds E) (line : Line) (ok : FieldsInRange (E .greatest) line) where
   -- The head.
   pub head-group : packed 0 (headWidths E) (headValues E line) ≡ bitsAt (sheetOf E line) 0 (total (headWidths E))
   head-group = group (sheetOf E line) 0 (headWidths E) (headValues E line) (omega (arith, sheet-length E line)) (head-fields-again E holds line ok)

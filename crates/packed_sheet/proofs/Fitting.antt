@@ -1,17 +1,18 @@
--- The fields of a line in range fit their widths. Assumes nothing.
-use Prim.Native.Nat.{ℕ, _^_, _≤_, _<_}
+-- The fields of a line in range fit their widths, and the head seven bytes. Assumes nothing.
+use Prim.Native.Nat.{ℕ, _*_, _^_, _≤_, _<_}
 use native.Mathlib.Omega.{arith}
 use Rattle.line.specs.declared.Line.{Line}
 use Rattle.line.specs.Checks.{distanceAt, curveAt}
-use Rattle.line.specs.Ranges.{LineInRange}
+use Rattle.line.specs.Ranges.{FieldsInRange}
 use Rattle.line.proofs.Sides.{side-fits}
-use Rattle.bits.specs.Bits.{Fit}
-use Rattle.packed_sheet.specs.Layout.{Edition, firstEdition, Holds, headWidths, distanceWidth, entryWidths}
+use Rattle.bits.specs.Bits.{total, Fit}
+use Rattle.packed_sheet.specs.declared.Edition.{Edition}
+use Rattle.packed_sheet.specs.Layout.{Holds, headWidths, distanceWidth, entryWidths, byteCount}
 use Rattle.packed_sheet.specs.Writing.{headValues, entryValues}
 
-module _ (line : Line) (ok : LineInRange line) where
-  pub head-fits : (E : Edition) → Holds E → Fit (headWidths E) (headValues E line)
-  head-fits E h =
+module _ (E : Edition) (line : Line) (ok : FieldsInRange (E .greatest) line) where
+  pub head-fits : Holds E → Fit (headWidths E) (headValues E line)
+  head-fits h =
       (h .number, (omega (arith, ok .few), (omega (arith, ok .speed-most), (omega (arith, ok .crossfall-most), (omega (arith, ok .start-most, h .start), tt)))))
 
   pub distance-fits : (i : ℕ) → i ≤ line .count → distanceAt line i < 2 ^ distanceWidth
@@ -22,5 +23,9 @@ module _ (line : Line) (ok : LineInRange line) where
       let c = ok .curve i h in
       (distance-fits i (omega arith), (omega (arith, side-fits (curveAt line i .left)), (omega (arith, c .A-most), (omega (arith, c .R-most), (omega (arith, c .L-most), tt)))))
 
-pub first-holds : Holds firstEdition
-first-holds = record { number = omega arith; start = omega arith }
+-- "The seven bytes of the first check hold the head", and every sheet has them.
+pub head-in-seven : (E : Edition) → Holds E → total (headWidths E) ≤ 8 * 7
+head-in-seven E h = omega (arith, h .narrow)
+
+pub seven-bytes : (E : Edition) → Holds E → (n : ℕ) → 7 ≤ byteCount E n
+seven-bytes E h n = omega (arith, h .wide)

@@ -15,7 +15,8 @@ use Rattle.line.specs.Checks.{headChecks}
 use Rattle.line.proofs.InRange.{few-curves}
 use Rattle.packed_sheet.specs.declared.Head.{Head}
 use Rattle.bits.specs.Bits.{bitsAt, valuesAt}
-use Rattle.packed_sheet.specs.Layout.{Edition, bitCount, byteCount, fillWidth}
+use Rattle.packed_sheet.specs.declared.Edition.{Edition}
+use Rattle.packed_sheet.specs.Layout.{bitCount, byteCount, fillWidth}
 use Rattle.bits.proofs.Fields.{bits-lt}
 use Rattle.packed_sheet.specs.Reading.{headOf, countOf, sizeChecks, frameChecks}
 
@@ -45,19 +46,19 @@ module _ (E : Edition) (s : List ℕ) where
 
   pub framed-by : {head : Head} {edition fields size : Outcome} → 7 ≤ length s → head ≡ headOf E s
       → edition ≡ need (eqb (head .edition) (E .number)) 2 0
-      → fields ≡ outcome (headChecks (head .count) (head .speed) (head .crossfall) (head .start))
+      → fields ≡ outcome (headChecks (E .greatest) (head .count) (head .speed) (head .crossfall) (head .start))
       → size ≡ outcome (sizeChecks E s (head .count))
       → (edition ▹ fields ▹ size) ≡ outcome (frameChecks E s)
   unfolding frameChecks
   framed-by h v e f z =
       rw (le-leb 7 (length s) h)
       (join e (join f z)
-      ∙ λ j. need (eqb (v j .edition) (E .number)) 2 0 ▹ outcome (headChecks (v j .count) (v j .speed) (v j .crossfall) (v j .start)) ▹ outcome (sizeChecks E s (v j .count)))
+      ∙ λ j. need (eqb (v j .edition) (E .number)) 2 0 ▹ outcome (headChecks (E .greatest) (v j .count) (v j .speed) (v j .crossfall) (v j .start)) ▹ outcome (sizeChecks E s (v j .count)))
 
   -- A sheet that passes 1 to 7.
   pub record Framed : Type 0 where
     pub edition : headOf E s .edition ≡ E .number
-    pub head : outcome (headChecks (countOf E s) (headOf E s .speed) (headOf E s .crossfall) (headOf E s .start)) ≡ passed
+    pub head : outcome (headChecks (E .greatest) (countOf E s) (headOf E s .speed) (headOf E s .crossfall) (headOf E s .start)) ≡ passed
     pub few : countOf E s ≤ 64
     pub size : length s ≡ byteCount E (countOf E s)
     pub fill : bitsAt s (bitCount E (countOf E s)) (fillWidth E (countOf E s)) ≡ 0
@@ -67,7 +68,7 @@ module _ (E : Edition) (s : List ℕ) where
   framed h =
       let n = countOf E s in
       let edition = need (eqb (headOf E s .edition) (E .number)) 2 0 in
-      let fields = outcome (headChecks n (headOf E s .speed) (headOf E s .crossfall) (headOf E s .start)) in
+      let fields = outcome (headChecks (E .greatest) n (headOf E s .speed) (headOf E s .crossfall) (headOf E s .start)) in
       let long = need (leb (byteCount E n) (length s)) 1 0 in
       let h₁ = passed-right (need (leb 7 (length s)) 1 0) _ h in
       let h₂ = passed-right edition _ h₁ in
@@ -79,7 +80,7 @@ module _ (E : Edition) (s : List ℕ) where
       record {
         edition = eqb-true _ _ (need-holds _ 2 0 (passed-left edition _ h₁));
         head = head;
-        few = few-curves n _ _ _ head;
+        few = few-curves _ n _ _ _ head;
         size = omega arith;
         fill = eqb-true _ 0 (both-right (leb (length s) (byteCount E n)) _ full);
       }

@@ -7,6 +7,7 @@ pub mod SoFar
 pub mod EachStore
 pub mod WrittenAgain
 pub mod ReadAgain
+pub mod Editions
 pub mod FieldGroups
 pub mod RoundTrip
 pub mod Examples

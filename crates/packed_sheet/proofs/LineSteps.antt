@@ -12,7 +12,8 @@ use Rattle.line.specs.Entries.{entries, blankLine, entered}
 use Rattle.line.proofs.Entries.{entries-set}
 use Rattle.packed_sheet.specs.declared.Head.{Head}
 use Rattle.bits.specs.Bits.{bitsAt, valuesAt}
-use Rattle.packed_sheet.specs.Layout.{Edition, distanceWidth, curveWidths, entryAt}
+use Rattle.packed_sheet.specs.declared.Edition.{Edition}
+use Rattle.packed_sheet.specs.Layout.{distanceWidth, curveWidths, entryAt}
 use Rattle.packed_sheet.specs.Reading.{headOf, countOf, distanceOf, curveFrom, curveOf, lineOf}
 
 -- A line of a head, distances and curves.

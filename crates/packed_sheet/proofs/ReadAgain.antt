@@ -7,53 +7,44 @@ use native.Mathlib.Decide.{decLe}
 use native.Mathlib.Omega.{arith}
 use lib.Dec.{eqb}
 use lib.ListN.{length, drop, getD}
-use lib.Pow.{pow-pos, pow-mono}
+use lib.Pow.{pow-pos}
 use borrow.Author.Tests.{le-leb, eq-eqb}
 use Rattle.refusals.specs.Outcomes.{passed, need, _▹_}
 use Rattle.refusals.specs.Order.{outcome}
 use Rattle.refusals.proofs.Joining.{passed-left}
 use Rattle.line.specs.declared.Curve.{Curve}
 use Rattle.line.specs.declared.Line.{Line}
-use Rattle.line.specs.Checks.{distanceAt, blankCurve, curveAt, headChecks, lineChecks}
+use Rattle.line.specs.Checks.{distanceAt, blankCurve, curveAt, headChecks, fieldChecks}
 use Rattle.line.specs.Entries.{entries, cleared}
-use Rattle.line.specs.Ranges.{LineInRange}
+use Rattle.line.specs.Ranges.{FieldsInRange}
 use Rattle.line.proofs.Entries.{entries-same}
 use Rattle.line.proofs.InRange.{line-passes}
 use Rattle.line.proofs.Sides.{side-of-bit}
 use Rattle.line.proofs.Unused.{unused-ignored, cleared-alike}
 use Rattle.bits.specs.Bits.{valueOf, bitsAt, valuesAt, total, Fit}
-use Rattle.packed_sheet.specs.Layout.{Edition, Holds, headWidths, distanceWidth, entryWidths, entryAt, bitCount, byteCount, fillWidth}
-use Rattle.packed_sheet.specs.Reading.{headFrom, curveFrom, headOf, distanceOf, curveOf, lineOf, sizeChecks, frameChecks, readChecks}
+use Rattle.packed_sheet.specs.declared.Edition.{Edition}
+use Rattle.packed_sheet.specs.Layout.{Holds, headWidths, distanceWidth, entryWidths, entryAt, bitCount, byteCount, fillWidth}
+use Rattle.packed_sheet.specs.Reading.{headFrom, curveFrom, headOf, distanceOf, curveOf, lineOf, sizeChecks, frameChecks, readChecksAs}
 use Rattle.packed_sheet.specs.Writing.{headValues, curveValues, entryValues, entriesAfter, numberTo, sheetNumber, sheetOf}
 use Rattle.bits.proofs.Bytes.{value-bytes}
 use Rattle.bits.proofs.Fields.{upTo, all-bits, packed-read, packed-lt}
-use Rattle.packed_sheet.proofs.Fitting.{head-fits, distance-fits, entry-fits}
+use Rattle.packed_sheet.proofs.Fitting.{head-fits, distance-fits, entry-fits, seven-bytes}
 use Rattle.packed_sheet.proofs.LineSteps.{lineWith}
 use Rattle.packed_sheet.proofs.WaysOut.{sheet-length, line-decides}
 
 curve-of-values : (c : Curve) → curveFrom (curveValues c) ≡ c
 curve-of-values c = λ j. record { left = side-of-bit (c .left) j; deflection = c .deflection; radius = c .radius; spiral = c .spiral }
 
--- The width of a start that holds the greatest one.
-start-wide : (E : Edition) → Holds E → 28 ≤ E .startWidth
-start-wide E holds = go (decLe 28 (E .startWidth))
-  where
-    go : Dec (28 ≤ E .startWidth) → 28 ≤ E .startWidth
-    go (yes h) = h
-    go (no h) =
-        let narrow : 2 ^ E .startWidth ≤ 2 ^ 27 = pow-mono {j = 27} (omega arith) in
-        absurd (omega (arith, holds .start, narrow))
-
-module _ (E : Edition) (holds : Holds E) (line : Line) (ok : LineInRange line) where
+module _ (E : Edition) (holds : Holds E) (line : Line) (ok : FieldsInRange (E .greatest) line) where
   -- Head and first i entries have as many bits as the layout says.
   number-lt : (i : ℕ) → i ≤ line .count → numberTo E line i < 2 ^ entryAt E i
   unfolding numberTo entriesAfter
   number-lt zero h =
       let bits : 0 + total (headWidths E) ≡ entryAt E 0 = omega arith in
-      rw (← bits) (packed-lt 0 0 (headWidths E) (headValues E line) (head-fits line ok E holds) (omega arith))
+      rw (← bits) (packed-lt 0 0 (headWidths E) (headValues E line) (head-fits E line ok holds) (omega arith))
   number-lt (suc i) h =
       let bits : entryAt E i + total entryWidths ≡ entryAt E (suc i) = omega arith in
-      rw (← bits) (packed-lt (entryAt E i) _ entryWidths (entryValues line i) (entry-fits line ok i h) (number-lt i (omega arith)))
+      rw (← bits) (packed-lt (entryAt E i) _ entryWidths (entryValues line i) (entry-fits E line ok i h) (number-lt i (omega arith)))
 
   -- The sheet, and what follows its entries: the last distance and the fill.
   abbrev sheet : List ℕ
@@ -66,7 +57,7 @@ module _ (E : Edition) (holds : Holds E) (line : Line) (ok : LineInRange line) w
   lastValues = distanceAt line (line .count) ∷ 0 ∷ []
 
   last-fits : Fit lastWidths lastValues
-  last-fits = (distance-fits line ok (line .count) (omega arith), (pow-pos (fillWidth E (line .count)), tt))
+  last-fits = (distance-fits E line ok (line .count) (omega arith), (pow-pos (fillWidth E (line .count)), tt))
 
   sheet-value : valueOf sheet ≡ sheetNumber E line
   unfolding sheetOf sheetNumber
@@ -88,7 +79,7 @@ module _ (E : Edition) (holds : Holds E) (line : Line) (ok : LineInRange line) w
   unfolding numberTo entriesAfter
   entry-step i h e =
       let bits : entryAt E i + total entryWidths ≡ entryAt E (suc i) = omega arith in
-      packed-read sheet (entryAt E i) _ entryWidths (entryValues line i) (entry-fits line ok i h) (omega (arith, sheet-length E line))
+      packed-read sheet (entryAt E i) _ entryWidths (entryValues line i) (entry-fits E line ok i h) (omega (arith, sheet-length E line))
       (ap (upTo sheet) bits ∙ e)
 
   -- From the end of the sheet back to entry i.
@@ -108,10 +99,10 @@ module _ (E : Edition) (holds : Holds E) (line : Line) (ok : LineInRange line) w
   unfolding numberTo entriesAfter
   head-fields-again =
       let bits : 0 + total (headWidths E) ≡ entryAt E 0 = omega arith in
-      packed-read sheet 0 0 (headWidths E) (headValues E line) (head-fits line ok E holds) (omega (arith, sheet-length E line))
+      packed-read sheet 0 0 (headWidths E) (headValues E line) (head-fits E line ok holds) (omega (arith, sheet-length E line))
       (ap (upTo sheet) bits ∙ number-again 0 (omega arith)) .1
 
-  head-again : headOf E sheet ≡ headFrom (headValues E line)
+  pub head-again : headOf E sheet ≡ headFrom (headValues E line)
   unfolding headOf
   head-again = ap headFrom head-fields-again
 
@@ -146,20 +137,20 @@ module _ (E : Edition) (holds : Holds E) (line : Line) (ok : LineInRange line) w
       rw (le-leb bytes (length sheet) (omega (arith, size)), le-leb (length sheet) bytes (omega (arith, size)), fill)
 
   frame-again : outcome (frameChecks E sheet) ≡ passed
-  unfolding frameChecks lineChecks
+  unfolding frameChecks fieldChecks
   frame-again =
-      let long = le-leb 7 (length sheet) (omega (arith, sheet-length E line, start-wide E holds)) in
-      let fields = passed-left (outcome (headChecks (line .count) (line .speed) (line .crossfall) (line .start))) _ (line-passes line ok) in
+      let long = le-leb 7 (length sheet) (omega (arith, sheet-length E line, seven-bytes E holds (line .count))) in
+      let fields = passed-left (outcome (headChecks (E .greatest) (line .count) (line .speed) (line .crossfall) (line .start))) _ (line-passes line ok) in
       (λ j.
       need (long j) 1 0
       ▹ need (eqb (head-again j .edition) (E .number)) 2 0
-      ▹ outcome (headChecks (head-again j .count) (head-again j .speed) (head-again j .crossfall) (head-again j .start))
+      ▹ outcome (headChecks (E .greatest) (head-again j .count) (head-again j .speed) (head-again j .crossfall) (head-again j .start))
       ▹ outcome (sizeChecks E sheet (head-again j .count)))
       ∙ rw (eq-eqb (E .number) (E .number) refl, fields) whole-again
 
-  pub read-again : outcome (readChecks E sheet) ≡ passed
+  pub read-again : outcome (readChecksAs E sheet) ≡ passed
   read-again =
       sym (line-decides E sheet frame-again)
-      ∙ ap (λ (l : Line). outcome (lineChecks l)) line-again
-      ∙ unused-ignored (cleared line) line (cleared-alike line (ok .few))
+      ∙ ap (λ (l : Line). outcome (fieldChecks (E .greatest) l)) line-again
+      ∙ unused-ignored (cleared line) line (cleared-alike line (ok .few)) _
       ∙ line-passes line ok

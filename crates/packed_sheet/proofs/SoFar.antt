@@ -6,7 +6,7 @@ use native.Mathlib.Omega.{arith}
 use lib.ListN.{length, take, drop, getD, set}
 use lib.Seq.{length-take-le, take-all, take-suc, drop-cons, append-snoc, set-at, drop-append-add, drop-drop}
 use Rattle.line.specs.declared.Line.{Line}
-use Rattle.packed_sheet.specs.Layout.{Edition}
+use Rattle.packed_sheet.specs.declared.Edition.{Edition}
 use Rattle.packed_sheet.specs.Writing.{sheetOf}
 use Rattle.packed_sheet.specs.EachStore.{soFar, Store, Stores, none, more}
 

@@ -7,7 +7,8 @@ use Rattle.line.specs.Checks.{distanceAt, blankCurve, curveAt}
 use Rattle.line.proofs.Entries.{entries-get}
 use Rattle.line.proofs.Sides.{bit-of-side}
 use Rattle.bits.specs.Bits.{Bytes, valueOf, bytesOf, bitsAt, valuesAt, packed}
-use Rattle.packed_sheet.specs.Layout.{Edition, headWidths, distanceWidth, entryWidths, entryAt, fillWidth}
+use Rattle.packed_sheet.specs.declared.Edition.{Edition}
+use Rattle.packed_sheet.specs.Layout.{headWidths, distanceWidth, entryWidths, entryAt, fillWidth}
 use Rattle.packed_sheet.specs.Reading.{headOf, countOf, distanceOf, curveOf, lineOf}
 use Rattle.packed_sheet.specs.Writing.{headValues, curveValues, entryValues, entriesAfter, numberTo, sheetNumber, sheetOf}
 use Rattle.bits.proofs.Bytes.{bytes-value}

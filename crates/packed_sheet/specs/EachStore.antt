@@ -5,7 +5,7 @@ use mathlib.Core.List.{List, _++_}
 use Prim.Native.Nat.{ℕ, suc, _<_}
 use lib.ListN.{length, take, drop}
 use Rattle.line.specs.declared.Line.{Line}
-use Rattle.packed_sheet.specs.Layout.{Edition}
+use Rattle.packed_sheet.specs.declared.Edition.{Edition}
 use Rattle.packed_sheet.specs.Writing.{sheetOf}
 
 -- "the bytes so far are the sheet's and the rest are as lent": the first k bytes of the line's sheet, then those lent

@@ -1,17 +1,20 @@
--- What a sheet means (document 01, "Packed sheet" and "Order"): its line, or the first refusal, for any list of bytes.
+-- What a sheet means (document 01, "Packed sheet" and "Order", and document 02, N6): its edition and its line, or the first refusal, for any
+-- list of bytes.
 use mathlib.Core.Bool.{_&&_}
 use mathlib.Core.List.{List}
 use Prim.Native.Nat.{ℕ, suc, _+_}
 use lib.Dec.{leb, eqb}
 use lib.ListN.{length, getD}
+use Rattle.refusals.specs.Outcomes.{Outcome, passed, refused}
 use Rattle.refusals.specs.Order.{Checks, check, _⨾_, outcome}
 use Rattle.line.specs.declared.Curve.{Curve}
 use Rattle.line.specs.declared.Line.{Line}
 use Rattle.line.specs.Checks.{headChecks, bodyChecks, blankCurve}
 use Rattle.line.specs.Entries.{entries, lineAfter}
+use Rattle.packed_sheet.specs.declared.Edition.{Edition}
 use Rattle.packed_sheet.specs.declared.Head.{Head}
 use Rattle.bits.specs.Bits.{bitsAt, valuesAt}
-use Rattle.packed_sheet.specs.Layout.{Edition, headWidths, distanceWidth, curveWidths, entryAt, bitCount, byteCount, fillWidth}
+use Rattle.packed_sheet.specs.Layout.{numbered, editionWidth, headWidths, distanceWidth, curveWidths, entryAt, bitCount, byteCount, fillWidth}
 
 -- The head of its fields, in order: edition, n, V, e, start.
 abbrev pub headFrom : List ℕ → Head
@@ -62,18 +65,38 @@ sizeChecks E sheet n =
     check (leb (byteCount E n) (length sheet)) 1 0
     ⨾ check (leb (length sheet) (byteCount E n) && eqb (bitsAt sheet (bitCount E n) (fillWidth E n)) 0) 7 0
 
--- "1 (seven bytes), 2, 3, 4, 5, 6, 1 (full length), 7"
+-- "1 (seven bytes), 2, 3, 4, 5, 6, 1 (full length), 7"; "the reader's .. refusal 6 follows the edition"
 unfoldable pub frameChecks : Edition → List ℕ → Checks
 frameChecks E sheet =
     check (leb 7 (length sheet)) 1 0
     ⨾ check (eqb (headOf E sheet .edition) (E .number)) 2 0
-    ⨾ headChecks (countOf E sheet) (headOf E sheet .speed) (headOf E sheet .crossfall) (headOf E sheet .start)
+    ⨾ headChecks (E .greatest) (countOf E sheet) (headOf E sheet .speed) (headOf E sheet .crossfall) (headOf E sheet .start)
     ⨾ sizeChecks E sheet (countOf E sheet)
 
 -- "then 8 to 11 in sheet order"
-unfoldable pub readChecks : Edition → List ℕ → Checks
-readChecks E sheet = frameChecks E sheet ⨾ bodyChecks (lineOf E sheet) (countOf E sheet)
+unfoldable pub readChecksAs : Edition → List ℕ → Checks
+readChecksAs E sheet = frameChecks E sheet ⨾ bodyChecks (lineOf E sheet) (countOf E sheet)
 
--- The line that the reader answers.
-unfoldable pub readLine : Edition → List ℕ → Line
-readLine E sheet = lineAfter (outcome (readChecks E sheet)) (lineOf E sheet)
+-- The line that is answered for a sheet that is read as one of this edition.
+unfoldable pub readLineAs : Edition → List ℕ → Line
+readLineAs E sheet = lineAfter (outcome (readChecksAs E sheet)) (lineOf E sheet)
+
+-- The edition whose number the first four bits have.
+unfoldable pub editionOf : List ℕ → Edition
+editionOf sheet = numbered (bitsAt sheet 0 editionWidth)
+
+-- The reader "takes either edition": its checks, and the line that it answers.
+abbrev pub readChecks : List ℕ → Checks
+readChecks sheet = readChecksAs (editionOf sheet) sheet
+
+abbrev pub readLine : List ℕ → Line
+readLine sheet = readLineAs (editionOf sheet) sheet
+
+-- A number beside the outcome of the checks: 0 after a refusal.
+abbrev pub numberAfter : Outcome → ℕ → ℕ
+numberAfter passed number = number
+numberAfter (refused _ _) number = 0
+
+-- "The reader reports the edition": its number
+unfoldable pub readEdition : List ℕ → ℕ
+readEdition sheet = numberAfter (outcome (readChecks sheet)) (editionOf sheet .number)

@@ -1,13 +1,16 @@
--- The sheet of a line (document 01, "Packed sheet"), and what the writer answers and leaves in the caller's bytes ("Order").
+-- The sheet of a line (document 01, "Packed sheet"), and what the writer answers and leaves in the caller's bytes
+-- ("Order", and document 02, N6).
 use mathlib.Core.List.{List, [], _∷_}
 use Prim.Native.Nat.{ℕ, zero, suc}
+use Rattle.refusals.specs.Order.{Checks, _⨾_}
 use Rattle.refusals.specs.Filling.{Fill, fill}
 use Rattle.line.specs.declared.Curve.{Curve}
 use Rattle.line.specs.declared.Line.{Line}
-use Rattle.line.specs.Checks.{distanceAt, curveAt, lineChecks}
+use Rattle.line.specs.Checks.{distanceAt, curveAt, fieldChecks}
 use Rattle.line.specs.Entries.{sideBit}
 use Rattle.bits.specs.Bits.{packed, bytesOf}
-use Rattle.packed_sheet.specs.Layout.{Edition, headWidths, distanceWidth, entryWidths, byteCount, fillWidth}
+use Rattle.packed_sheet.specs.declared.Edition.{Edition}
+use Rattle.packed_sheet.specs.Layout.{numbered, editionCheck, headWidths, distanceWidth, entryWidths, byteCount, fillWidth}
 
 -- The head's fields: edition, n, V, e, start.
 abbrev pub headValues : Edition → Line → List ℕ
@@ -39,6 +42,10 @@ sheetNumber E line =
 unfoldable pub sheetOf : Edition → Line → List ℕ
 sheetOf E line = bytesOf (byteCount E (line .count)) (sheetNumber E line)
 
--- The writer, with bytes lent: "3 to 6, 8 to 11 likewise, 16"; "the sheet at the front of the lent bytes", and its length returned
-unfoldable pub sheetIn : Edition → Line → List ℕ → Fill ℕ
-sheetIn E line = fill (lineChecks line) (sheetOf E line)
+-- The writer "is told" the edition: 2, "the writer's first", then "3 to 6, 8 to 11 likewise", where 6 "follows the edition"
+unfoldable pub writeChecks : ℕ → Line → Checks
+writeChecks number line = editionCheck number ⨾ fieldChecks (numbered number .greatest) line
+
+-- The writer, told an edition's number, with bytes lent: its checks, then 16; "the sheet at the front of the lent bytes", and its length returned
+unfoldable pub sheetIn : ℕ → Line → List ℕ → Fill ℕ
+sheetIn number line = fill (writeChecks number line) (sheetOf (numbered number) line)

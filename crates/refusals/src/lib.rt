@@ -7,7 +7,7 @@ ghost use Rattle.refusals.specs.Outcomes.{outcomeOf, need, _▹_};
 pub enum Refusal {
     // 1: too few bytes.
     Truncated,
-    // 2: the edition is not one that can be read.
+    // 2: the edition is not one that is known, or not the other one, to convert.
     Edition,
     // 3: too many curves, points or vertices, too few points, or a wrong count of numbers.
     CurveCount,
@@ -15,7 +15,7 @@ pub enum Refusal {
     Speed,
     // 5: the crossfall is out of range.
     Crossfall,
-    // 6: the start is out of range, or a profile's vertex or height.
+    // 6: the start is past the greatest, or a profile's start, vertex or height is out of range.
     Start,
     // 7: too many bytes, or a fill bit is set.
     Trailing,
@@ -51,6 +51,8 @@ pub enum Refusal {
     Grade(u16),
     // 23: the vertical curve is shorter than sight needs.
     Sight(u16),
+    // 24: the start is past the greatest of the edition asked for.
+    FarStart,
 }
 
 // What a call that fills a caller's buffer answers: how many entries it wrote at the buffer's front, or why it wrote none.
@@ -94,6 +96,7 @@ impl Refusal {
             Refusal::VerticalCurve(_) => 21,
             Refusal::Grade(_) => 22,
             Refusal::Sight(_) => 23,
+            Refusal::FarStart => 24,
         }
     }
 
@@ -125,6 +128,7 @@ impl Refusal {
             Refusal::VerticalCurve(vertex) => vertex,
             Refusal::Grade(vertex) => vertex,
             Refusal::Sight(vertex) => vertex,
+            Refusal::FarStart => 0,
         }
     }
 }

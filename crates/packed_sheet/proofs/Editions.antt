@@ -1,0 +1,98 @@
+-- The two editions: which numbers have one, that the head of both fits, and what follows from an edition's number. Assumes nothing.
+use mathlib.Core.Path.{_≡_, refl, sym, _∙_, ap}
+use mathlib.Core.Bool.{Bool, true, false, cond}
+use mathlib.Core.Logic.{_⊎_, inl, inr}
+use mathlib.Core.List.{List}
+use Prim.Native.Nat.{ℕ, _≤_}
+use native.Mathlib.Omega.{arith}
+use lib.Dec.{eqb}
+use borrow.Author.Tests.{eqb-true, eq-eqb}
+use Rattle.refusals.specs.Outcomes.{Outcome, passed, need, _▹_}
+use Rattle.refusals.specs.Order.{outcome}
+use Rattle.refusals.proofs.Joining.{passed-left, passed-right, need-holds}
+use Rattle.line.specs.declared.Line.{Line}
+use Rattle.line.specs.Checks.{greatestStart, fieldChecks}
+use Rattle.line.specs.Ranges.{FieldsInRange}
+use Rattle.bits.specs.Bits.{bitsAt, valuesAt}
+use Rattle.packed_sheet.specs.declared.Edition.{Edition}
+use Rattle.packed_sheet.specs.declared.Head.{Head}
+use Rattle.packed_sheet.specs.Layout.{firstEdition, secondEdition, numbered, editionCheck, Holds}
+use Rattle.packed_sheet.specs.Reading.{headOf, readChecks, editionOf, numberAfter, readEdition}
+use Rattle.packed_sheet.specs.Writing.{sheetOf, writeChecks}
+use Rattle.packed_sheet.proofs.ReadAgain.{head-again}
+
+-- What holds of both editions holds of the edition of any number.
+pub of-both : (P : Edition → Type 0) → P firstEdition → P secondEdition → (number : ℕ) → P (numbered number)
+unfolding numbered
+of-both P first second number = go (eqb number 2)
+  where
+    go : (is2 : Bool) → P (cond is2 secondEdition firstEdition)
+    go true = second
+    go false = first
+
+-- Their heads have room.
+pub numbered-holds : (number : ℕ) → Holds (numbered number)
+numbered-holds =
+    of-both Holds
+    (record { number = omega arith; start = omega arith; wide = omega arith; narrow = omega arith })
+    (record { number = omega arith; start = omega arith; wide = omega arith; narrow = omega arith })
+
+-- Their starts are starts that lines may have.
+pub start-of-line : (number : ℕ) → numbered number .greatest ≤ greatestStart
+start-of-line = of-both (λ (E : Edition). E .greatest ≤ greatestStart) (omega arith) (omega arith)
+
+-- An edition is that of its number.
+pub own-number : (number : ℕ) → numbered (numbered number .number) ≡ numbered number
+unfolding numbered
+own-number = of-both (λ (E : Edition). numbered (E .number) ≡ E) refl refl
+
+-- The number of an edition passes.
+pub own-passes : (number : ℕ) → outcome (editionCheck (numbered number .number)) ≡ passed
+unfolding editionCheck numbered
+own-passes = of-both (λ (E : Edition). outcome (editionCheck (E .number)) ≡ passed) refl refl
+
+-- A number that passes is that of its edition: 1 or 2, and both pass.
+pub known-number : (number : ℕ) → outcome (editionCheck number) ≡ passed → number ≡ numbered number .number
+unfolding editionCheck
+known-number number e = eqb-true number _ (need-holds _ 2 0 e)
+
+pub one-or-two : (number : ℕ) → outcome (editionCheck number) ≡ passed → (number ≡ 1) ⊎ (number ≡ 2)
+one-or-two number e = of-both (λ (E : Edition). number ≡ E .number → (number ≡ 1) ⊎ (number ≡ 2)) inl inr number (known-number number e)
+
+pub one-and-two : (number : ℕ) → (number ≡ 1) ⊎ (number ≡ 2) → outcome (editionCheck number) ≡ passed
+unfolding editionCheck numbered
+one-and-two number (inl e) = ap (λ (n : ℕ). need (eqb n (numbered n .number)) 2 0) e
+one-and-two number (inr e) = ap (λ (n : ℕ). need (eqb n (numbered n .number)) 2 0) e
+
+-- ---- the edition that is read
+
+-- The edition of a sheet that was written in one of the two.
+pub edition-again : (number : ℕ) (line : Line) → FieldsInRange (numbered number .greatest) line → editionOf (sheetOf (numbered number) line) ≡ numbered number
+unfolding editionOf headOf valuesAt
+edition-again number line ok =
+    let E : Edition = numbered number in
+    ap (λ (h : Head). numbered (h .edition)) (head-again E (numbered-holds number) line ok) ∙ own-number number
+
+-- The number that is reported where nothing is refused: that of the sheet's edition, which has it.
+pub reported : (sheet : List ℕ) → outcome (readChecks sheet) ≡ passed → readEdition sheet ≡ editionOf sheet .number
+unfolding readEdition
+reported sheet e = ap (λ (o : Outcome). numberAfter o (editionOf sheet .number)) e
+
+pub reported-edition : (sheet : List ℕ) → outcome (readChecks sheet) ≡ passed → numbered (readEdition sheet) ≡ editionOf sheet
+unfolding editionOf
+reported-edition sheet e = ap numbered (reported sheet e) ∙ own-number _
+
+-- ---- the edition that is told
+
+module _ (number : ℕ) (line : Line) where
+  pub told-edition : outcome (writeChecks number line) ≡ passed → outcome (editionCheck number) ≡ passed
+  unfolding writeChecks
+  told-edition e = passed-left (outcome (editionCheck number)) _ e
+
+  pub told-fields : outcome (writeChecks number line) ≡ passed → outcome (fieldChecks (numbered number .greatest) line) ≡ passed
+  unfolding writeChecks
+  told-fields e = passed-right (outcome (editionCheck number)) _ e
+
+  pub both-pass : outcome (editionCheck number) ≡ passed → outcome (fieldChecks (numbered number .greatest) line) ≡ passed → outcome (writeChecks number line) ≡ passed
+  unfolding writeChecks
+  both-pass n f = λ j. n j ▹ f j
