@@ -7,7 +7,8 @@ use Prim.Native.Nat.{ℕ, _≤_}
 use native.Mathlib.Omega.{arith}
 use lib.Dec.{eqb}
 use borrow.Author.Tests.{eqb-true, eq-eqb}
-use Rattle.refusals.specs.Outcomes.{Outcome, passed, need, _▹_}
+use Rattle.refusals.specs.declared.Verdict.{Verdict}
+use Rattle.refusals.specs.Outcomes.{Outcome, passed, outcomeOf, need, _▹_}
 use Rattle.refusals.specs.Order.{outcome}
 use Rattle.refusals.proofs.Joining.{passed-left, passed-right, need-holds}
 use Rattle.line.specs.declared.Line.{Line}
@@ -72,6 +73,16 @@ unfolding editionOf headOf valuesAt
 edition-again number line ok =
     let E : Edition = numbered number in
     ap (λ (h : Head). numbered (h .edition)) (head-again E (numbered-holds number) line ok) ∙ own-number number
+
+pub edition-holds : (sheet : List ℕ) → Holds (editionOf sheet)
+unfolding editionOf
+edition-holds sheet = numbered-holds _
+
+-- The number beside a verdict.
+pub edition-beside : (sheet : List ℕ) (v : Verdict) {w : Verdict} {n : ℕ} → outcomeOf v ≡ outcome (readChecks sheet) → v ≡ w
+    → n ≡ numberAfter (outcomeOf w) (editionOf sheet .number) → n ≡ readEdition sheet
+unfolding readEdition
+edition-beside sheet v answer e h = h ∙ ap (λ (o : Outcome). numberAfter o (editionOf sheet .number)) (sym (ap outcomeOf e) ∙ answer)
 
 -- The number that is reported where nothing is refused: that of the sheet's edition, which has it.
 pub reported : (sheet : List ℕ) → outcome (readChecks sheet) ≡ passed → readEdition sheet ≡ editionOf sheet .number

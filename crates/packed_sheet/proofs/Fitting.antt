@@ -10,11 +10,11 @@ use Rattle.packed_sheet.specs.declared.Edition.{Edition}
 use Rattle.packed_sheet.specs.Layout.{Holds, headWidths, distanceWidth, entryWidths, byteCount}
 use Rattle.packed_sheet.specs.Writing.{headValues, entryValues}
 
-module _ (E : Edition) (line : Line) (ok : FieldsInRange (E .greatest) line) where
-  pub head-fits : Holds E → Fit (headWidths E) (headValues E line)
-  head-fits h =
-      (h .number, (omega (arith, ok .few), (omega (arith, ok .speed-most), (omega (arith, ok .crossfall-most), (omega (arith, ok .start-most, h .start), tt)))))
+pub head-fits : (E : Edition) (line : Line) → FieldsInRange (E .greatest) line → Holds E → Fit (headWidths E) (headValues E line)
+head-fits E line ok h =
+    (h .number, (omega (arith, ok .few), (omega (arith, ok .speed-most), (omega (arith, ok .crossfall-most), (omega (arith, ok .start-most, h .start), tt)))))
 
+module _ {greatest : ℕ} (line : Line) (ok : FieldsInRange greatest line) where
   pub distance-fits : (i : ℕ) → i ≤ line .count → distanceAt line i < 2 ^ distanceWidth
   distance-fits i h = omega (arith, ok .distance-most i h)
 

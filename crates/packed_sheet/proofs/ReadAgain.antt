@@ -44,7 +44,7 @@ module _ (E : Edition) (holds : Holds E) (line : Line) (ok : FieldsInRange (E .g
       rw (← bits) (packed-lt 0 0 (headWidths E) (headValues E line) (head-fits E line ok holds) (omega arith))
   number-lt (suc i) h =
       let bits : entryAt E i + total entryWidths ≡ entryAt E (suc i) = omega arith in
-      rw (← bits) (packed-lt (entryAt E i) _ entryWidths (entryValues line i) (entry-fits E line ok i h) (number-lt i (omega arith)))
+      rw (← bits) (packed-lt (entryAt E i) _ entryWidths (entryValues line i) (entry-fits line ok i h) (number-lt i (omega arith)))
 
   -- The sheet, and what follows its entries: the last distance and the fill.
   abbrev sheet : List ℕ
@@ -57,7 +57,7 @@ module _ (E : Edition) (holds : Holds E) (line : Line) (ok : FieldsInRange (E .g
   lastValues = distanceAt line (line .count) ∷ 0 ∷ []
 
   last-fits : Fit lastWidths lastValues
-  last-fits = (distance-fits E line ok (line .count) (omega arith), (pow-pos (fillWidth E (line .count)), tt))
+  last-fits = (distance-fits line ok (line .count) (omega arith), (pow-pos (fillWidth E (line .count)), tt))
 
   sheet-value : valueOf sheet ≡ sheetNumber E line
   unfolding sheetOf sheetNumber
@@ -79,7 +79,7 @@ module _ (E : Edition) (holds : Holds E) (line : Line) (ok : FieldsInRange (E .g
   unfolding numberTo entriesAfter
   entry-step i h e =
       let bits : entryAt E i + total entryWidths ≡ entryAt E (suc i) = omega arith in
-      packed-read sheet (entryAt E i) _ entryWidths (entryValues line i) (entry-fits E line ok i h) (omega (arith, sheet-length E line))
+      packed-read sheet (entryAt E i) _ entryWidths (entryValues line i) (entry-fits line ok i h) (omega (arith, sheet-length E line))
       (ap (upTo sheet) bits ∙ e)
 
   -- From the end of the sheet back to entry i.

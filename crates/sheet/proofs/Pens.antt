@@ -9,7 +9,7 @@ use lib.ListN.{length, getD}
 use lib.Pow.{pow-add, pow-pos, shl-exact, shl-shr, mod-pow-add, mod-mod-pow}
 use Rattle.line.specs.declared.Line.{Line}
 use Rattle.bits.specs.Bits.{Bytes, bitsAt}
-use Rattle.packed_sheet.specs.Layout.{Edition}
+use Rattle.packed_sheet.specs.declared.Edition.{Edition}
 use Rattle.packed_sheet.proofs.SoFar.{stores-kept}
 use Rattle.sheet.specs.declared.pen.Pen.{Pen}
 use Rattle.sheet.specs.Pens.{Begun, Put}

@@ -6,7 +6,7 @@ use lib.ListN.{length}
 use Rattle.line.specs.declared.Line.{Line}
 use Rattle.sheet.specs.declared.pen.Pen.{Pen}
 use Rattle.bits.specs.Bits.{bitsAt}
-use Rattle.packed_sheet.specs.Layout.{Edition}
+use Rattle.packed_sheet.specs.declared.Edition.{Edition}
 use Rattle.packed_sheet.specs.Writing.{sheetOf}
 use Rattle.packed_sheet.specs.EachStore.{soFar, Stores}
 

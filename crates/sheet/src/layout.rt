@@ -1,9 +1,10 @@
-// The layout of a sheet of edition 1: the widths of its fields in bits.
+// The editions of the sheet, and their layout: the widths of its fields in bits. All but the start's are those of every edition.
 ghost use mathlib.Core.Path.{_≡_};
-ghost use Prim.Native.Nat.{_<_};
-ghost use Rattle.packed_sheet.specs.Layout.{firstEdition, entryAt, bitCount, byteCount};
+ghost use Prim.Native.Nat.{_<_, _≤_};
+ghost use Rattle.packed_sheet.specs.Layout.{numbered, entryAt, bitCount, byteCount};
+use packed_sheet::Edition;
 
-// The head.
+// The head, before the start.
 pub(crate) const EDITION: usize = 4;
 
 pub(crate) const COUNT: usize = 7;
@@ -12,7 +13,8 @@ pub(crate) const SPEED: usize = 7;
 
 pub(crate) const CROSSFALL: usize = 4;
 
-pub(crate) const START: usize = 28;
+// The bit where the start begins.
+pub(crate) const START_AT: usize = EDITION + COUNT + SPEED + CROSSFALL;
 
 // A distance, and the curve after it.
 pub(crate) const DISTANCE: usize = 25;
@@ -25,9 +27,7 @@ pub(crate) const RADIUS: usize = 23;
 
 pub(crate) const SPIRAL: usize = 19;
 
-// The bits that the writer puts at once: the head, a distance with side and deflection, radius and spiral.
-pub(crate) const HEAD: usize = EDITION + COUNT + SPEED + CROSSFALL + START;
-
+// The bits that the writer puts at once, beside the head: a distance with side and deflection, radius and spiral.
 pub(crate) const TURN: usize = DISTANCE + SIDE + DEFLECTION;
 
 pub(crate) const SIZE: usize = RADIUS + SPIRAL;
@@ -35,26 +35,44 @@ pub(crate) const SIZE: usize = RADIUS + SPIRAL;
 // A distance with its curve.
 const ENTRY: usize = TURN + SIZE;
 
-// The bit where distance `i` begins; the curve after it follows.
-pub(crate) fn entry_at(i: usize) -> usize
-    requires { ⌜ i < 128 ⌝ }
-    ensures { λ r. ⌜ r ≡ entryAt firstEdition i ⌝ }
+// The edition of a number. Any number but 1 and 2 has none: it gets edition 1, whose number it is not.
+pub fn edition_numbered(number: u32) -> Edition
+    ensures { λ r. ⌜ r ≡ numbered number ⌝ }
 {
-    HEAD + ENTRY * i
+    if number == 2 {
+        return Edition {
+            number: 2,
+            width: 32,
+            greatest: 4000000000,
+        };
+    }
+    Edition {
+        number: 1,
+        width: 28,
+        greatest: 200000000,
+    }
+}
+
+// The bit where distance `i` begins; the curve after it follows.
+pub(crate) fn entry_at(edition: Edition, i: usize) -> usize
+    requires { ⌜ (i < 128) × (edition .width ≤ 32) ⌝ }
+    ensures { λ r. ⌜ r ≡ entryAt edition i ⌝ }
+{
+    START_AT + edition.width + ENTRY * i
 }
 
 // How many bits a sheet of `n` curves has before it is filled to a whole byte.
-pub(crate) fn bit_count(n: usize) -> usize
-    requires { ⌜ n < 128 ⌝ }
-    ensures { λ r. ⌜ r ≡ bitCount firstEdition n ⌝ }
+pub(crate) fn bit_count(edition: Edition, n: usize) -> usize
+    requires { ⌜ (n < 128) × (edition .width ≤ 32) ⌝ }
+    ensures { λ r. ⌜ r ≡ bitCount edition n ⌝ }
 {
-    entry_at(n) + DISTANCE
+    entry_at(edition, n) + DISTANCE
 }
 
 // How many bytes a sheet of `n` curves has.
-pub(crate) fn byte_count(n: usize) -> usize
-    requires { ⌜ n < 128 ⌝ }
-    ensures { λ r. ⌜ r ≡ byteCount firstEdition n ⌝ }
+pub(crate) fn byte_count(edition: Edition, n: usize) -> usize
+    requires { ⌜ (n < 128) × (edition .width ≤ 32) ⌝ }
+    ensures { λ r. ⌜ r ≡ byteCount edition n ⌝ }
 {
-    (bit_count(n) + 7) / 8
+    (bit_count(edition, n) + 7) / 8
 }

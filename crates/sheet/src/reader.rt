@@ -6,8 +6,8 @@ ghost use Rattle.refusals.specs.Outcomes.{passed, outcomeOf};
 ghost use Rattle.refusals.specs.Order.{outcome};
 ghost use Rattle.bits.specs.Bits.{valuesAt};
 ghost use Rattle.line.specs.Entries.{blankLine};
-ghost use Rattle.packed_sheet.specs.Layout.{firstEdition, curveWidths};
-ghost use Rattle.packed_sheet.specs.Reading.{headOf, curveFrom, sizeChecks, frameChecks, lineOf, readChecks, readLine};
+ghost use Rattle.packed_sheet.specs.Layout.{numbered, Holds, curveWidths};
+ghost use Rattle.packed_sheet.specs.Reading.{headOf, curveFrom, sizeChecks, frameChecks, lineOf, editionOf, readChecks, readLine, readEdition};
 ghost use Rattle.packed_sheet.specs.Writing.{sheetOf};
 use crate::fields::bits_at;
 use crate::fields::last_bits;
@@ -21,51 +21,62 @@ use crate::layout::RADIUS;
 use crate::layout::SIDE;
 use crate::layout::SPEED;
 use crate::layout::SPIRAL;
-use crate::layout::START;
+use crate::layout::START_AT;
 use crate::layout::bit_count;
 use crate::layout::byte_count;
+use crate::layout::edition_numbered;
 use crate::layout::entry_at;
 use line::Curve;
 use line::Line;
 use line::blank_line;
+use line::check_fields;
 use line::check_head;
-use line::check_line;
+use packed_sheet::Edition;
 use packed_sheet::Head;
 use refusals::Refusal;
 use refusals::Verdict;
 use refusals::first;
 use refusals::must;
 
-// What the reader answers: that all is well, and the line; or the first refusal, and a line whose fields are all zero.
+// What the reader answers: that all is well, the number of the sheet's edition, and the line; or the first refusal, 0, and a line whose
+// fields are all zero.
 pub struct ReadAnswer {
     pub verdict: Verdict,
+    pub edition: u32,
     pub line: Line,
 }
 
-fn read_head(sheet: &[u8]) -> Head
+// The edition whose number the first bits have.
+fn read_edition(sheet: &[u8]) -> Edition
     requires { ⌜ 7 ≤ length (now sheet) ⌝ }
-    ensures { λ r. ⌜ r ≡ headOf firstEdition (now (sheet .entry)) ⌝ }
+    ensures { λ r. ⌜ r ≡ editionOf (now (sheet .entry)) ⌝ }
+{
+    edition_numbered(bits_at(sheet, 0, EDITION))
+}
+
+fn read_head(edition: Edition, sheet: &[u8]) -> Head
+    requires { ⌜ Holds edition × (7 ≤ length (now sheet)) ⌝ }
+    ensures { λ r. ⌜ r ≡ headOf edition (now (sheet .entry)) ⌝ }
 {
     let count_at = EDITION;
     let speed_at = count_at + COUNT;
     let crossfall_at = speed_at + SPEED;
-    let start_at = crossfall_at + CROSSFALL;
     Head {
         edition: bits_at(sheet, 0, EDITION),
         count: bits_at(sheet, count_at, COUNT) as usize,
         speed: bits_at(sheet, speed_at, SPEED),
         crossfall: bits_at(sheet, crossfall_at, CROSSFALL),
-        start: long_bits_at(sheet, start_at, START),
+        start: long_bits_at(sheet, START_AT, edition.width),
     }
 }
 
 // Refusals 1 and 7 of a sheet that says it has `n` curves.
-fn check_size(sheet: &[u8], n: usize) -> Verdict
-    requires { ⌜ n < 128 ⌝ }
-    ensures { λ r. ⌜ outcomeOf r ≡ outcome (sizeChecks firstEdition (now (sheet .entry)) n) ⌝ }
+fn check_size(edition: Edition, sheet: &[u8], n: usize) -> Verdict
+    requires { ⌜ Holds edition × (n < 128) ⌝ }
+    ensures { λ r. ⌜ outcomeOf r ≡ outcome (sizeChecks edition (now (sheet .entry)) n) ⌝ }
 {
-    let bits = bit_count(n);
-    let bytes = byte_count(n);
+    let bits = bit_count(edition, n);
+    let bytes = byte_count(edition, n);
     if sheet.len() < bytes {
         return Verdict::Refused(Refusal::Truncated);
     }
@@ -77,14 +88,20 @@ fn check_size(sheet: &[u8], n: usize) -> Verdict
 }
 
 // The first of refusals 2 to 7.
-fn check_frame(sheet: &[u8], head: Head) -> Verdict
-    requires { ⌜ (7 ≤ length (now sheet)) × (head ≡ headOf firstEdition (now sheet)) ⌝ }
-    ensures { λ r. ⌜ outcomeOf r ≡ outcome (frameChecks firstEdition (now (sheet .entry))) ⌝ }
+fn check_frame(edition: Edition, sheet: &[u8], head: Head) -> Verdict
+    requires { ⌜ Holds edition × (7 ≤ length (now sheet)) × (head ≡ headOf edition (now sheet)) ⌝ }
+    ensures { λ r. ⌜ outcomeOf r ≡ outcome (frameChecks edition (now (sheet .entry))) ⌝ }
 {
-    let edition = must(head.edition == 1, Refusal::Edition);
-    let fields = check_head(head.count, head.speed, head.crossfall, head.start);
-    let size = check_size(sheet, head.count);
-    first(edition, first(fields, size))
+    let known = must(head.edition == edition.number, Refusal::Edition);
+    let fields = check_head(
+        edition.greatest,
+        head.count,
+        head.speed,
+        head.crossfall,
+        head.start,
+    );
+    let size = check_size(edition, sheet, head.count);
+    first(known, first(fields, size))
 }
 
 // The curve whose fields begin at bit `at`. Side and deflection are taken together.
@@ -104,9 +121,9 @@ fn curve_at(sheet: &[u8], at: usize) -> Curve
 }
 
 // The line of a sheet that passes 1 to 7.
-fn read_line(sheet: &[u8], head: Head) -> Line
-    requires { ⌜ (outcome (frameChecks firstEdition (now sheet)) ≡ passed) × (head ≡ headOf firstEdition (now sheet)) ⌝ }
-    ensures { λ r. ⌜ r ≡ lineOf firstEdition (now (sheet .entry)) ⌝ }
+fn read_line(edition: Edition, sheet: &[u8], head: Head) -> Line
+    requires { ⌜ Holds edition × (outcome (frameChecks edition (now sheet)) ≡ passed) × (head ≡ headOf edition (now sheet)) ⌝ }
+    ensures { λ r. ⌜ r ≡ lineOf edition (now (sheet .entry)) ⌝ }
 {
     let n = head.count;
     let mut line = blank_line();
@@ -116,44 +133,52 @@ fn read_line(sheet: &[u8], head: Head) -> Line
     line.count = n;
     let mut i = 0;
     while i < n {
-        let at = entry_at(i);
+        let at = entry_at(edition, i);
         line.distances[i] = bits_at(sheet, at, DISTANCE);
         line.curves[i] = curve_at(sheet, at + DISTANCE);
         i += 1;
     }
-    line.distances[n] = bits_at(sheet, entry_at(n), DISTANCE);
+    line.distances[n] = bits_at(sheet, entry_at(edition, n), DISTANCE);
     line
 }
 
-// A refusal, with no line.
+// A refusal, with no edition and no line.
 fn no_line(verdict: Verdict) -> ReadAnswer
-    ensures { λ r. ⌜ (r .verdict ≡ verdict) × (r .line ≡ blankLine) ⌝ }
+    ensures { λ r. ⌜ (r .verdict ≡ verdict) × (r .edition ≡ 0) × (r .line ≡ blankLine) ⌝ }
 {
     ReadAnswer {
         verdict,
+        edition: 0,
         line: blank_line(),
     }
 }
 
-// The line of a sheet, its unused entries zero, or the first refusal in document 01's order: 1 (seven bytes), 2, 3, 4, 5, 6,
-// 1 (full length), 7, then 8 to 11 in sheet order. Any bytes are taken. A sheet that is not refused is the sheet of its line.
+// The edition and the line of a sheet, its unused entries zero, or the first refusal in document 01's order: 1 (seven bytes), 2, 3, 4, 5, 6,
+// which follows the edition, 1 (full length), 7, then 8 to 11 in sheet order. Any bytes are taken. A sheet that is not refused is the sheet
+// of its line in its edition.
 pub fn read(sheet: &[u8]) -> ReadAnswer
-    ensures answer { λ r. ⌜ outcomeOf (r .verdict) ≡ outcome (readChecks firstEdition (now (sheet .entry))) ⌝ }
-    ensures line { λ r. ⌜ r .line ≡ readLine firstEdition (now (sheet .entry)) ⌝ }
-    ensures again { λ r. ⌜ (outcomeOf (r .verdict) ≡ passed → sheetOf firstEdition (r .line) ≡ now (sheet .entry)) ⌝ }
+    ensures answer { λ r. ⌜ outcomeOf (r .verdict) ≡ outcome (readChecks (now (sheet .entry))) ⌝ }
+    ensures edition { λ r. ⌜ r .edition ≡ readEdition (now (sheet .entry)) ⌝ }
+    ensures line { λ r. ⌜ r .line ≡ readLine (now (sheet .entry)) ⌝ }
+    ensures again { λ r. ⌜ (outcomeOf (r .verdict) ≡ passed → sheetOf (numbered (r .edition)) (r .line) ≡ now (sheet .entry)) ⌝ }
 {
     if sheet.len() < 7 {
         return no_line(Verdict::Refused(Refusal::Truncated));
     }
-    let head = read_head(sheet);
-    let frame = check_frame(sheet, head);
+    let edition = read_edition(sheet);
+    let head = read_head(edition, sheet);
+    let frame = check_frame(edition, sheet, head);
     let Verdict::Pass = frame else {
         return no_line(frame);
     };
-    let line = read_line(sheet, head);
-    let verdict = check_line(line);
+    let line = read_line(edition, sheet, head);
+    let verdict = check_fields(edition.greatest, line);
     let Verdict::Pass = verdict else {
         return no_line(verdict);
     };
-    ReadAnswer { verdict, line }
+    ReadAnswer {
+        verdict,
+        edition: edition.number,
+        line,
+    }
 }

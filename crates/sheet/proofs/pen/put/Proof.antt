@@ -4,7 +4,6 @@ use Prim.Native.Nat.{ℕ, _+_, _-_, _*_}
 use native.Mathlib.Omega.{arith}
 use borrow.Author.Needs.{needs}
 use Rattle.bits.specs.Bits.{bitsAt}
-use Rattle.packed_sheet.specs.Layout.{firstEdition}
 use Rattle.packed_sheet.specs.Writing.{sheetOf}
 use Rattle.packed_sheet.specs.EachStore.{none}
 use Rattle.sheet.specs.Pens.{position}
@@ -19,7 +18,7 @@ join-requires : tie.Need-join-requires
 join-requires c κs =
     let start = c .before .before .before in
     let a = start .args in
-    (start .pre .1 .0, field-lt (sheetOf firstEdition (a .line)) (position (a .pen)) (a .width) (a .value) (start .pre .1 .1) (start .pre .1 .2))
+    (start .pre .1 .0, field-lt (sheetOf (a .edition) (a .line)) (position (a .pen)) (a .width) (a .value) (start .pre .1 .1) (start .pre .1 .2))
 
 returns : tie.Need-returns
 returns c =
@@ -31,7 +30,7 @@ returns c =
       moved = omega arith;
       waits = record {
         few = omega arith;
-        next = joined-next (sheetOf firstEdition (a .line)) (position p) (a .width) (a .value) (start .pre .1 .1) (start .pre .1 .2) (p .at) (p .pending) (p .held) (c .join .result) (omega arith) (start .pre .0 .1 .next) next;
+        next = joined-next (sheetOf (a .edition) (a .line)) (position p) (a .width) (a .value) (start .pre .1 .1) (start .pre .1 .2) (p .at) (p .pending) (p .held) (c .join .result) (omega arith) (start .pre .0 .1 .next) next;
       };
       stores = none;
     }
@@ -46,7 +45,7 @@ join-requires-2 : tie.Need-join-requires-2
 join-requires-2 c κs =
     let start = c .before .before .before in
     let a = start .args in
-    let s = sheetOf firstEdition (a .line) in
+    let s = sheetOf (a .edition) (a .line) in
     let left : ℕ = a .pen .held + a .width - 64 in
     (omega arith, field-lt s (position (a .pen)) (a .width - left) _ (omega arith) (first-bits s (position (a .pen)) (a .width) (a .value) (start .pre .1 .1) (start .pre .1 .2) left (omega arith)))
 
@@ -55,15 +54,15 @@ store-bytes-requires c κs =
     let start = c .before .before .before .before .before in
     let a = start .args in
     let p = a .pen in
-    let s = sheetOf firstEdition (a .line) in
+    let s = sheetOf (a .edition) (a .line) in
     let left : ℕ = p .held + a .width - 64 in
     let full : p .held + (a .width - left) ≡ 64 = omega arith in
     let first = first-bits s (position p) (a .width) (a .value) (start .pre .1 .1) (start .pre .1 .2) left (omega arith) in
     let word = joined-next s (position p) (a .width - left) _ (omega arith) first (p .at) (p .pending) (p .held) (c .before .join2 .result) (omega arith) (start .pre .0 .1 .next) (c .before .join2 .ensures .0 (p .held) (omega arith)) in
     (start .pre .0 .0, (omega arith, omega arith, rw full at word))
 
-add-t12 : tie.Need-add-t12
-add-t12 c = search needs
+add-t13 : tie.Need-add-t13
+add-t13 c = search needs
 
 same-length : tie.Need-same-length
 same-length c = search needs
@@ -73,7 +72,7 @@ returns-2 c =
     let start = c .before .before .before .before .before .before .before .before in
     let a = start .args in
     let p = a .pen in
-    let s = sheetOf firstEdition (a .line) in
+    let s = sheetOf (a .edition) (a .line) in
     let left : ℕ = p .held + a .width - 64 in
     let behind : position p + (a .width - left) ≡ 8 * (p .at + 8) = omega arith in
     record {
@@ -96,6 +95,6 @@ put-spec =
     shr-join
     join-requires-2
     store-bytes-requires
-    add-t12
+    add-t13
     same-length
     returns-2)

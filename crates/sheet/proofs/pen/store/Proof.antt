@@ -1,6 +1,5 @@
 -- `store` meets its contract. Assumes nothing.
 use borrow.Author.Needs.{needs}
-use Rattle.packed_sheet.specs.Layout.{firstEdition}
 use Rattle.packed_sheet.proofs.SoFar.{store-made}
 use Rattle.sheet.proofs.pen.store.Statement.{statement}
 use Rattle.sheet.proofs.pen.store.Tie as tie
@@ -13,7 +12,7 @@ same-length c = search needs
 
 returns : tie.Need-returns
 returns c =
-    store-made firstEdition (c .args .line) (c .args .bytes .now) (c .args .at) (c .pre .1 .0) (c .pre .0 .room) (c .pre .0 .stored) (c .pre .1 .1)
+    store-made (c .args .edition) (c .args .line) (c .args .bytes .now) (c .args .at) (c .pre .1 .0) (c .pre .0 .room) (c .pre .0 .stored) (c .pre .1 .1)
 
 pub store-spec : {M : Type 1} → statement M
 store-spec = tie.close (tie.spec slice-write-bytes same-length returns)

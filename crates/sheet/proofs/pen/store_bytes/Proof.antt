@@ -6,7 +6,6 @@ use native.Mathlib.Omega.{arith}
 use borrow.Author.Needs.{needs}
 use lib.ListN.{length}
 use Rattle.bits.specs.Bits.{bitsAt}
-use Rattle.packed_sheet.specs.Layout.{firstEdition}
 use Rattle.packed_sheet.specs.Writing.{sheetOf}
 use Rattle.packed_sheet.specs.EachStore.{Stores, none, more}
 use Rattle.packed_sheet.proofs.WaysOut.{sheet-bytes}
@@ -17,17 +16,17 @@ use Rattle.sheet.proofs.pen.store_bytes.Statement.{statement}
 use Rattle.sheet.proofs.pen.store_bytes.Tie as tie
 
 abbrev Inv-loop : tie.InvT-loop
-Inv-loop line bytes₀ at word held next₀ left₀ bytes next left =
+Inv-loop E line bytes₀ at word held next₀ left₀ bytes next left =
     (next + left / 8 ≡ at + held / 8)
     × (left ≤ 64)
-    × (8 * next + left ≤ 8 * length (sheetOf firstEdition line))
+    × (8 * next + left ≤ 8 * length (sheetOf E line))
     × (length bytes ≡ length bytes₀)
-    × (word % 2 ^ left ≡ bitsAt (sheetOf firstEdition line) (8 * next) left)
-    × Begun firstEdition line bytes next
-    × Stores firstEdition line at bytes₀ next bytes
+    × (word % 2 ^ left ≡ bitsAt (sheetOf E line) (8 * next) left)
+    × Begun E line bytes next
+    × Stores E line at bytes₀ next bytes
 
 abbrev μ-loop : tie.MeasureT-loop
-μ-loop line bytes₀ at word held next₀ left₀ bytes next left = left
+μ-loop E line bytes₀ at word held next₀ left₀ bytes next left = left
 
 loop-holds : tie.Need-loop-holds Inv-loop μ-loop
 loop-holds c =
@@ -42,9 +41,10 @@ cast-store c = search needs
 
 store-requires : tie.Need-store-requires Inv-loop μ-loop
 store-requires c κs =
+    let E = c .before .before .before .before .args .edition in
     let line = c .before .before .before .before .args .line in
     let l = c .before .before .loop in
-    let next = next-byte (sheetOf firstEdition line) (l .next) _ (l .left) (sheet-bytes firstEdition line) (l .inv .2) (omega arith) (l .inv .4) in
+    let next = next-byte (sheetOf E line) (l .next) _ (l .left) (sheet-bytes E line) (l .inv .2) (omega arith) (l .inv .4) in
     (l .inv .5, (omega arith, next .0))
 
 add-next : tie.Need-add-next Inv-loop μ-loop
@@ -55,17 +55,18 @@ loop-less c = omega arith
 
 loop-again : tie.Need-loop-again Inv-loop μ-loop
 loop-again c =
+    let E = c .before .before .before .before .before .before .before .args .edition in
     let line = c .before .before .before .before .before .before .before .args .line in
     let l = c .before .before .before .before .before .loop in
     let one = c .before .before .store .ensures in
-    let size = c .before .before .store .kept .1 .0 in
-    let next = next-byte (sheetOf firstEdition line) (l .next) _ (l .left) (sheet-bytes firstEdition line) (l .inv .2) (omega arith) (l .inv .4) in (
+    let size = c .before .before .store .kept .1 .1 .0 in
+    let next = next-byte (sheetOf E line) (l .next) _ (l .left) (sheet-bytes E line) (l .inv .2) (omega arith) (l .inv .4) in (
       omega arith,
       omega arith,
       omega arith,
       size ∙ l .inv .3,
       next .1,
-      record { room = omega (arith, size, l .inv .5 .room); stored = rw (add-one (l .next)) (store-kept firstEdition line one) },
+      record { room = omega (arith, size, l .inv .5 .room); stored = rw (add-one (l .next)) (store-kept E line one) },
       rw (add-one (l .next)) (more (l .inv .6) one),
     )
 

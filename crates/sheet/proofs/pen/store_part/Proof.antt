@@ -4,7 +4,6 @@ use Prim.Native.Nat.{ℕ, _+_, _-_, _*_, _/_}
 use native.Mathlib.Omega.{arith}
 use borrow.Author.Needs.{needs}
 use Rattle.bits.specs.Bits.{bitsAt}
-use Rattle.packed_sheet.specs.Layout.{firstEdition}
 use Rattle.packed_sheet.specs.Writing.{sheetOf}
 use Rattle.packed_sheet.specs.EachStore.{none}
 use Rattle.sheet.proofs.Pens.{waits-parted}
@@ -24,11 +23,11 @@ store-bytes-requires c κs =
     let start = c .before .before .before .before in
     let a = start .args in
     let p = a .pen in
-    let parts = waits-parted (sheetOf firstEdition (a .line)) (p .at) (p .pending) (p .held) (a .size) (omega arith) (start .pre .0 .2) (start .pre .0 .1 .next) in
+    let parts = waits-parted (sheetOf (a .edition) (a .line)) (p .at) (p .pending) (p .held) (a .size) (omega arith) (start .pre .0 .2) (start .pre .0 .1 .next) in
     (start .pre .0 .0, (start .pre .1 .0, omega (arith, start .pre .0 .2), parts .0))
 
-add-t15 : tie.Need-add-t15
-add-t15 c = search needs
+add-t16 : tie.Need-add-t16
+add-t16 c = search needs
 
 same-length : tie.Need-same-length
 same-length c = search needs
@@ -38,7 +37,7 @@ returns-2 c =
     let start = c .before .before .before .before .before .before .before in
     let a = start .args in
     let p = a .pen in
-    let s = sheetOf firstEdition (a .line) in
+    let s = sheetOf (a .edition) (a .line) in
     let parts = waits-parted s (p .at) (p .pending) (p .held) (a .size) (omega arith) (start .pre .0 .2) (start .pre .0 .1 .next) in
     let behind : 8 * p .at + a .size ≡ 8 * (p .at + a .size / 8) = omega (arith, start .pre .1 .1) in (
       record {
@@ -50,4 +49,4 @@ returns-2 c =
     )
 
 pub store-part-spec : {M : Type 1} → statement M
-store-part-spec = tie.close (tie.spec returns shr-store-bytes store-bytes-requires add-t15 same-length returns-2)
+store-part-spec = tie.close (tie.spec returns shr-store-bytes store-bytes-requires add-t16 same-length returns-2)

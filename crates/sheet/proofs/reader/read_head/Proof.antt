@@ -11,9 +11,6 @@ add-speed-at c = search needs
 add-crossfall-at : tie.Need-add-crossfall-at
 add-crossfall-at c = search needs
 
-add-start-at : tie.Need-add-start-at
-add-start-at c = search needs
-
 bits-at-requires : tie.Need-bits-at-requires
 bits-at-requires c κs = search needs
 
@@ -49,7 +46,6 @@ read-head-spec =
     (tie.spec
     add-speed-at
     add-crossfall-at
-    add-start-at
     bits-at-requires
     bits-at-requires-2
     cast-t8

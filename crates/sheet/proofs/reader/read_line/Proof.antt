@@ -5,7 +5,7 @@ use native.Mathlib.Omega.{arith}
 use borrow.Author.Needs.{needs}
 use lib.ListN.{length}
 use Rattle.packed_sheet.specs.declared.Head.{Head}
-use Rattle.packed_sheet.specs.Layout.{firstEdition, bitCount}
+use Rattle.packed_sheet.specs.Layout.{Holds, bitCount}
 use Rattle.packed_sheet.specs.Reading.{countOf}
 use Rattle.packed_sheet.proofs.Frames.{framed}
 use Rattle.packed_sheet.proofs.LineSteps.{lineTo, line-begun, entry-read, last-read}
@@ -13,15 +13,16 @@ use Rattle.sheet.proofs.reader.read_line.Statement.{statement}
 use Rattle.sheet.proofs.reader.read_line.Tie as tie
 
 abbrev Inv-loop : tie.InvT-loop
-Inv-loop sheet n line₀ i₀ line i =
+Inv-loop E sheet n line₀ i₀ line i =
     (i ≤ n)
     × (n ≤ 64)
-    × (bitCount firstEdition n ≤ 8 * length sheet)
-    × (n ≡ countOf firstEdition sheet)
-    × (line ≡ lineTo firstEdition sheet i i)
+    × (bitCount E n ≤ 8 * length sheet)
+    × (n ≡ countOf E sheet)
+    × (line ≡ lineTo E sheet i i)
+    × Holds E
 
 abbrev μ-loop : tie.MeasureT-loop
-μ-loop sheet n line₀ i₀ line i = n - i
+μ-loop E sheet n line₀ i₀ line i = n - i
 
 blank-line-requires : tie.Need-blank-line-requires Inv-loop μ-loop
 blank-line-requires c κs = search needs
@@ -29,9 +30,9 @@ blank-line-requires c κs = search needs
 loop-holds : tie.Need-loop-holds Inv-loop μ-loop
 loop-holds c =
     let start = c .before .before in
-    let f = framed firstEdition _ (start .pre .0) in
-    let n = ap (λ (h : Head). h .count) (start .pre .1) in
-    (omega arith, omega (arith, n, f .few), omega (arith, n, f .size), n, line-begun firstEdition _ (start .pre .1) (c .blank-line .ensures))
+    let f = framed _ _ (start .pre .1) in
+    let n = ap (λ (h : Head). h .count) (start .pre .2) in
+    (omega arith, omega (arith, n, f .few), omega (arith, n, f .size), n, line-begun _ _ (start .pre .2) (c .blank-line .ensures), start .pre .0)
 
 entry-at-requires : tie.Need-entry-at-requires Inv-loop μ-loop
 entry-at-requires c κs = search needs
@@ -51,8 +52,8 @@ add-curve-at c = search needs
 curve-at-requires : tie.Need-curve-at-requires Inv-loop μ-loop
 curve-at-requires c κs = search needs
 
-mul-t14 : tie.Need-mul-t14 Inv-loop μ-loop
-mul-t14 c = search needs
+mul-t15 : tie.Need-mul-t15 Inv-loop μ-loop
+mul-t15 c = search needs
 
 element-set-from-line : tie.Need-element-set-from-line Inv-loop μ-loop
 element-set-from-line c = search needs
@@ -70,7 +71,8 @@ loop-again c =
       inv .1,
       inv .2,
       inv .3,
-      entry-read firstEdition _ _ (omega arith) (inv .4) (c .before .before .entry-at .ensures) (c .before .bits-at .ensures) (c .curve-at .ensures),
+      entry-read _ _ _ (omega arith) (inv .4) (c .before .before .entry-at .ensures) (c .before .bits-at .ensures) (c .curve-at .ensures),
+      inv .5,
     )
 
 entry-at-requires-2 : tie.Need-entry-at-requires-2 Inv-loop μ-loop
@@ -88,10 +90,11 @@ element-write-line-2 c = search needs
 returns : tie.Need-returns Inv-loop μ-loop
 returns c =
     let start = c .before .before .before .before .before .before in
+    let E = start .args .edition in
     let s = start .args .sheet .now in
     let loop = c .before .before .before .loop in
     let done : loop .i ≡ start .args .head .count = omega arith in
-    last-read firstEdition s _ (omega arith) (loop .inv .3) (loop .inv .4 ∙ ap (λ (k : ℕ). lineTo firstEdition s k k) done)
+    last-read E s _ (omega arith) (loop .inv .3) (loop .inv .4 ∙ ap (λ (k : ℕ). lineTo E s k k) done)
     (c .before .entry-at2 .ensures) (c .bits-at2 .ensures)
 
 pub read-line-spec : {M : Type 1} → statement M
@@ -108,7 +111,7 @@ read-line-spec =
     element-write-line
     add-curve-at
     curve-at-requires
-    mul-t14
+    mul-t15
     element-set-from-line
     add-i
     loop-less
