@@ -36,7 +36,7 @@ other h k = record { straight-short = λ e. absurd (h e); arc-short = λ e. absu
 module _ (n : ℕ) (seven : 7 ≤ n) (line : Line) {number place : ℕ} where
   by-fields : First (lineChecks line) number place → Refused n line number place
   by-fields f =
-      let told = first-numbers 3 11 (line .count) (lineChecks line) (line-numbers line) f in
+      let told = first-numbers 3 11 (line .count) (lineChecks line) (line-numbers _ line) f in
       other (λ e. omega (arith, told .1)) (λ e. omega (arith, told .1))
 
   module _ (ok : LineInRange line) (i : ℕ) where

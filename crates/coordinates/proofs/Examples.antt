@@ -11,7 +11,7 @@ use Rattle.refusals.specs.Order.{outcome}
 use Rattle.refusals.specs.Replying.{answered, reply}
 use Rattle.refusals.proofs.Filled.{found}
 use Rattle.refusals.proofs.Replied.{passed-reply}
-use Rattle.line.specs.Checks.{distanceCheck, headChecks, lineChecks}
+use Rattle.line.specs.Checks.{distanceCheck, headChecks, fieldChecks}
 use Rattle.line.specs.Entries.{entries}
 use Rattle.arithmetic.specs.Largest.{largest, rootOf}
 use Rattle.arithmetic.proofs.Largest.{root-is}
@@ -177,11 +177,11 @@ root-1 : rootOf 1 ≡ 1
 root-1 = sym (root-is 1 1 (omega arith) (omega arith))
 
 slight-passes : passes slight one ≡ refused 4 0
-unfolding fromPointsChecks countChecks coordinateCheck lengthCheck turnChecks distanceCheck headChecks lineChecks alignmentChecks firstOf deflectionFrom lengthOf crossOf dotOf reached fullAngle term alternating sineOf cosineOf lineFrom
+unfolding fromPointsChecks countChecks coordinateCheck lengthCheck turnChecks distanceCheck headChecks fieldChecks alignmentChecks firstOf deflectionFrom lengthOf crossOf dotOf reached fullAngle term alternating sineOf cosineOf lineFrom
 slight-passes = rw (root-1, slight-length, one-second) refl
 
 sixty-passes : passes sixty one ≡ refused 4 0
-unfolding fromPointsChecks countChecks coordinateCheck lengthCheck turnChecks distanceCheck headChecks lineChecks alignmentChecks firstOf deflectionFrom lengthOf crossOf dotOf reached fullAngle term alternating sineOf cosineOf lineFrom
+unfolding fromPointsChecks countChecks coordinateCheck lengthCheck turnChecks distanceCheck headChecks fieldChecks alignmentChecks firstOf deflectionFrom lengthOf crossOf dotOf reached fullAngle term alternating sineOf cosineOf lineFrom
 sixty-passes = rw (root-1, sixty-length, sixty-degrees) refl
 
 pub record Edges : Type 0 where
@@ -195,7 +195,7 @@ pub record Edges : Type 0 where
   pub given : (lineFrom 70 8 5 twice two .speed ≡ 70) × (lineFrom 70 8 5 twice two .crossfall ≡ 8) × (lineFrom 70 8 5 twice two .start ≡ 5)
 
 pub edges : Edges
-unfolding fromPointsChecks countChecks coordinateCheck lengthCheck turnChecks distanceCheck headChecks lineChecks alignmentChecks firstOf deflectionFrom lengthOf crossOf dotOf rootOf largest reached fullAngle term alternating sineOf cosineOf curveFrom lineFrom
+unfolding fromPointsChecks countChecks coordinateCheck lengthCheck turnChecks distanceCheck headChecks fieldChecks alignmentChecks firstOf deflectionFrom lengthOf crossOf dotOf rootOf largest reached fullAngle term alternating sineOf cosineOf curveFrom lineFrom
 edges =
     record {
       most-points = refl;

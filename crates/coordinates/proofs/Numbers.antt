@@ -16,7 +16,7 @@ use Rattle.refusals.proofs.InOrder.{held}
 use Rattle.refusals.proofs.InTurn.{each-passes}
 use Rattle.line.specs.declared.Curve.{Curve}
 use Rattle.line.specs.declared.Line.{Line}
-use Rattle.line.specs.Checks.{within, startCheck, headChecks, distanceCheck, curveChecks, curveAt, bodyChecks, lineChecks}
+use Rattle.line.specs.Checks.{within, startCheck, headChecks, distanceCheck, curveChecks, curveAt, bodyChecks, fieldChecks}
 use Rattle.elements.specs.Answer.{arcCheck}
 use Rattle.stationing.specs.Answer.{designChecks, designChecksAt, straightCheck, alignmentChecks}
 use Rattle.orders.proofs.Numbers.{alignment-numbers}
@@ -69,7 +69,7 @@ module _ (v e start : ℕ) (points : List ℤ) (curves : List ℕ) where
         (body-answers i (omega arith), λ _. ((inr (deflection-held i h), λ _. (inl refl, λ _. inl refl)), λ _. inl refl))
 
     line-answers : Answers answerable (alignmentChecks line)
-    unfolding alignmentChecks lineChecks headChecks startCheck designChecksAt designChecks arcCheck straightCheck lineFrom
+    unfolding alignmentChecks fieldChecks headChecks startCheck designChecksAt designChecks arcCheck straightCheck lineFrom
     line-answers =
         (((inl refl, λ _. (inl refl, λ _. (inl refl, λ _. inl refl))), λ _. body-answers (curveCount points) (omega arith)), λ _. ((λ i h. (inl refl, λ _. (inl refl, λ _. inl refl))), λ _. λ i h. inl refl))
 

@@ -116,6 +116,22 @@ line-in-range {g} l h =
       curve = λ i m. last-curve l i (body-below l n (suc i) m body);
     }
 
+-- Under another limit of the start.
+pub other-greatest : {g : ℕ} (g′ : ℕ) (l : Line) → FieldsInRange g l → l .start ≤ g′ → FieldsInRange g′ l
+other-greatest g′ l ok h =
+    record {
+      few = ok .few;
+      speed-least = ok .speed-least;
+      speed-most = ok .speed-most;
+      speed-tens = ok .speed-tens;
+      crossfall-least = ok .crossfall-least;
+      crossfall-most = ok .crossfall-most;
+      start-most = h;
+      distance-least = ok .distance-least;
+      distance-most = ok .distance-most;
+      curve = ok .curve;
+    }
+
 -- And a line in range passes.
 within-holds : (least most x : ℕ) → least ≤ x → x ≤ most → within least most x ≡ true
 within-holds least most x l h = rw (le-leb least x l, le-leb x most h)

@@ -8,7 +8,7 @@ use Rattle.refusals.specs.Outcomes.{passed, refused}
 use Rattle.refusals.specs.Order.{outcome}
 use Rattle.line.specs.declared.Curve.{Curve}
 use Rattle.line.specs.declared.Line.{Line}
-use Rattle.line.specs.Checks.{startCheck, headChecks, distanceCheck, curveChecks, bodyChecks, lineChecks, blankCurve}
+use Rattle.line.specs.Checks.{startCheck, headChecks, distanceCheck, curveChecks, bodyChecks, fieldChecks, blankCurve}
 use Rattle.line.specs.Entries.{entries}
 use Rattle.line_numbers.specs.Numbers.{numbersTo, lineNumbers, fewCheck, turnOf, curveOf, lineOf, countCheck, numbersChecks}
 
@@ -39,26 +39,28 @@ pub record Examples : Type 0 where
   pub numbers : lineNumbers (line 2 (500000 ∷ 400000 ∷ 300000 ∷ 7 ∷ []) (curves ++ curves)) ≡ head 2 500000 ++ entry 0 ++ other 1
   pub line-of-them : lineOf (head 2 500000 ++ entry 0 ++ other 1)
       ≡ line 2 (500000 ∷ 400000 ∷ 300000 ∷ replicate 62 0) (curves ++ replicate 62 blankCurve)
-  pub accepted : outcome (numbersChecks (head 2 500000 ++ entry 0 ++ other 1)) ≡ passed
+  pub accepted : outcome (numbersChecks 5 (head 2 500000 ++ entry 0 ++ other 1)) ≡ passed
+  pub start-beyond : outcome (numbersChecks 4 (head 2 0 ++ entry 0 ++ other 1)) ≡ refused 6 0
   pub curves-64 : outcome (fewCheck (line 64 [] [])) ≡ passed
   pub curves-65 : outcome (fewCheck (line 65 [] [])) ≡ refused 3 0
   -- ---- other than the numbers of n curves
-  pub none-at-all : outcome (numbersChecks []) ≡ refused 3 0
-  pub cut-short : outcome (numbersChecks (head 2 0 ++ entry 0 ++ (1 ∷ 36000 ∷ 500000 ∷ 0 ∷ []))) ≡ refused 3 0
-  pub one-more : outcome (numbersChecks (head 2 0 ++ entry 0 ++ other 1 ++ (0 ∷ []))) ≡ refused 3 0
-  pub curve-not-counted : outcome (numbersChecks (head 1 500000 ++ entry 0 ++ other 1)) ≡ refused 3 0
+  pub none-at-all : outcome (numbersChecks 200000000 []) ≡ refused 3 0
+  pub cut-short : outcome (numbersChecks 200000000 (head 2 0 ++ entry 0 ++ (1 ∷ 36000 ∷ 500000 ∷ 0 ∷ []))) ≡ refused 3 0
+  pub one-more : outcome (numbersChecks 200000000 (head 2 0 ++ entry 0 ++ other 1 ++ (0 ∷ []))) ≡ refused 3 0
+  pub curve-not-counted : outcome (numbersChecks 200000000 (head 1 500000 ++ entry 0 ++ other 1)) ≡ refused 3 0
   pub over-64 : outcome (countCheck (head 65 500000 ++ replicate 325 1)) ≡ refused 3 0
   -- ---- a side other than 0 and 1, in sheet order
-  pub side-2 : outcome (numbersChecks (head 2 500000 ++ entry 0 ++ other 2)) ≡ refused 9 2
-  pub distance-before-side : outcome (numbersChecks (head 2 0 ++ entry 2 ++ other 0)) ≡ refused 8 0
+  pub side-2 : outcome (numbersChecks 200000000 (head 2 500000 ++ entry 0 ++ other 2)) ≡ refused 9 2
+  pub distance-before-side : outcome (numbersChecks 200000000 (head 2 0 ++ entry 2 ++ other 0)) ≡ refused 8 0
 
 pub examples : Examples
-unfolding numbersTo lineNumbers entries turnOf curveOf lineOf countCheck numbersChecks startCheck headChecks distanceCheck curveChecks bodyChecks lineChecks
+unfolding numbersTo lineNumbers entries turnOf curveOf lineOf countCheck numbersChecks startCheck headChecks distanceCheck curveChecks bodyChecks fieldChecks
 examples =
     record {
       numbers = refl;
       line-of-them = refl;
       accepted = refl;
+      start-beyond = refl;
       curves-64 = refl;
       curves-65 = refl;
       none-at-all = refl;

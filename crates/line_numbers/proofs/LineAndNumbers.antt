@@ -16,9 +16,9 @@ use Rattle.refusals.specs.Order.{outcome}
 use Rattle.refusals.proofs.Joining.{passed-left, passed-right, need-holds}
 use Rattle.line.specs.declared.Curve.{Curve}
 use Rattle.line.specs.declared.Line.{Line}
-use Rattle.line.specs.Checks.{distanceAt, blankCurve, curveAt, lineChecks}
+use Rattle.line.specs.Checks.{distanceAt, blankCurve, curveAt, fieldChecks}
 use Rattle.line.specs.Entries.{sideBit, entries, cleared}
-use Rattle.line.specs.Ranges.{LineInRange}
+use Rattle.line.specs.Ranges.{FieldsInRange}
 use Rattle.line.proofs.InRange.{line-in-range}
 use Rattle.line.proofs.Entries.{entries-get, entries-same}
 use Rattle.line.proofs.Sides.{side-of-bit, bit-of-side, side-fits}
@@ -97,15 +97,15 @@ module _ (line : Line) where
       }
 
   -- A line and its numbers have the same first refusal.
-  pub outcome-again : line .count ≤ 64 → outcome (numbersChecks (lineNumbers line)) ≡ outcome (lineChecks line)
+  pub outcome-again : (greatest : ℕ) → line .count ≤ 64 → outcome (numbersChecks greatest (lineNumbers line)) ≡ outcome (fieldChecks greatest line)
   unfolding numbersChecks countCheck lineNumbers
-  outcome-again few =
+  outcome-again greatest few =
       let n : numberAt numbers 0 ≡ line .count = head-in (line .count) 0 (omega arith) in
       let counted : (leb (numberAt numbers 0) 64 && eqb (length numbers) (numberCount (numberAt numbers 0))) ≡ true =
       rw (n, le-leb (line .count) 64 few) (eq-eqb (length numbers) (numberCount (line .count)) (numbers-length line (line .count))) in
-      ap (λ (b : Bool). need b 3 0 ▹ outcome (lineChecks (lineOf numbers))) counted
-      ∙ ap (λ (l : Line). outcome (lineChecks l)) line-again
-      ∙ unused-ignored (cleared line) line (cleared-alike line few)
+      ap (λ (b : Bool). need b 3 0 ▹ outcome (fieldChecks greatest (lineOf numbers))) counted
+      ∙ ap (λ (l : Line). outcome (fieldChecks greatest l)) line-again
+      ∙ unused-ignored (cleared line) line (cleared-alike line few) greatest
 
 -- ---- from numbers to their line and back
 
@@ -121,7 +121,7 @@ module _ (numbers : List ℕ) (passes : outcome (countCheck numbers) ≡ passed)
   pub all-counted : length numbers ≡ numberCount (numberAt numbers 0)
   all-counted = eqb-true (length numbers) (numberCount (numberAt numbers 0)) (both-right (leb (numberAt numbers 0) 64) _ test)
 
-module _ (numbers : List ℕ) (accepted : outcome (numbersChecks numbers) ≡ passed) where
+module _ (greatest : ℕ) (numbers : List ℕ) (accepted : outcome (numbersChecks greatest numbers) ≡ passed) where
   abbrev n : ℕ
   n = numberAt numbers 0
 
@@ -136,7 +136,7 @@ module _ (numbers : List ℕ) (accepted : outcome (numbersChecks numbers) ≡ pa
   pub counted : length numbers ≡ numberCount n
   counted = all-counted numbers passes
 
-  in-range : LineInRange (lineOf numbers)
+  in-range : FieldsInRange greatest (lineOf numbers)
   unfolding numbersChecks
   in-range = line-in-range (lineOf numbers) (passed-right (outcome (countCheck numbers)) _ accepted)
 

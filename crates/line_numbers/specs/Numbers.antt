@@ -8,7 +8,7 @@ use lib.ListN.{length, getD}
 use Rattle.refusals.specs.Order.{Checks, check, _⨾_}
 use Rattle.line.specs.declared.Curve.{Curve}
 use Rattle.line.specs.declared.Line.{Line}
-use Rattle.line.specs.Checks.{distanceAt, blankCurve, curveAt, lineChecks}
+use Rattle.line.specs.Checks.{distanceAt, blankCurve, curveAt, fieldChecks}
 use Rattle.line.specs.Entries.{sideBit, entries}
 
 -- How many numbers a line of n curves has.
@@ -79,6 +79,6 @@ lineOf numbers =
 unfoldable pub countCheck : List ℕ → Checks
 countCheck numbers = check (leb (numberAt numbers 0) 64 && eqb (length numbers) (numberCount (numberAt numbers 0))) 3 0
 
--- The checks of numbers: 3, then the writer's "3 to 6, 8 to 11 likewise" of their line.
-unfoldable pub numbersChecks : List ℕ → Checks
-numbersChecks numbers = countCheck numbers ⨾ lineChecks (lineOf numbers)
+-- The checks of numbers, their start up to the greatest: 3, then the writer's "3 to 6, 8 to 11 likewise" of their line.
+unfoldable pub numbersChecks : (greatest : ℕ) → List ℕ → Checks
+numbersChecks greatest numbers = countCheck numbers ⨾ fieldChecks greatest (lineOf numbers)

@@ -42,7 +42,7 @@ abbrev pub fourAt : Line → ℕ → List ℤ
 fourAt line i = pointsAt line i .TS ∷ pointsAt line i .SC ∷ pointsAt line i .CS ∷ pointsAt line i .ST ∷ []
 
 module _ (line : Line) (ok : Accepted line) where
-  end-between : Between (endOf line) 0 2268000000000
+  end-between : Between (endOf line) 0 6068000000000
   unfolding endOf
   end-between =
       let few = ok .in-range .few in
@@ -79,11 +79,11 @@ module _ (line : Line) (ok : Accepted line) where
   end-ascent =
       rw (former-between line ok (line .count) (omega arith) .same, ok .straight (line .count) (omega arith) .same) (farther _ _ done)
 
--- The row's numbers are the stations themselves, which are not below zero; none is below the one before it; and none is above 2,268 km.
+-- The row's numbers are the stations themselves, which are not below zero; none is below the one before it; and none is above 6,068 km.
 pub record InOrder (line : Line) : Type 0 where
   pub exact : map pos (stationRow line) ≡ stationsOf line
   pub never-back : Ascent (1000 * line .start) (stationRow line) (natAbs (endOf line))
-  pub most : (k : ℕ) → getD (stationRow line) k 0 ≤ 2268000000000
+  pub most : (k : ℕ) → getD (stationRow line) k 0 ≤ 6068000000000
 
 pub in-order : (line : Line) → outcome (alignmentChecks line) ≡ passed → InOrder line
 unfolding stationRow stationsOf
@@ -95,7 +95,7 @@ in-order line e = record { exact = exact; never-back = ascent; most = λ k. omeg
     curves : List ℤ
     curves = curveStations line (line .count)
 
-    end : Between (endOf line) 0 2268000000000
+    end : Between (endOf line) 0 6068000000000
     end = end-between line ok
 
     end-exact : pos (natAbs (endOf line)) ≡ endOf line
@@ -112,5 +112,5 @@ in-order line e = record { exact = exact; never-back = ascent; most = λ k. omeg
         rw (map-append natAbs curves (endOf line ∷ []))
         (joined (numbers-ascent line ok (line .count) (omega arith)) (end-ascent line ok))
 
-    end-most : natAbs (endOf line) ≤ 2268000000000
+    end-most : natAbs (endOf line) ≤ 6068000000000
     end-most = rw (end .same) (end .high)

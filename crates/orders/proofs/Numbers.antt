@@ -15,4 +15,4 @@ design-numbers line i far h = ((omega arith, omega arith, h), λ _. ((omega arit
 pub alignment-numbers : (line : Line) → Refuses 3 15 (line .count) (alignmentChecks line)
 unfolding alignmentChecks straightCheck
 alignment-numbers line =
-    (wider (lineChecks line) (line-numbers line) (omega arith) (omega arith) (omega arith), λ _. ((λ i h. design-numbers line i (line .count) h), λ _. λ i h. (omega arith, omega arith, omega arith)))
+    (wider (lineChecks line) (line-numbers _ line) (omega arith) (omega arith) (omega arith), λ _. ((λ i h. design-numbers line i (line .count) h), λ _. λ i h. (omega arith, omega arith, omega arith)))

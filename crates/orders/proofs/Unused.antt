@@ -71,7 +71,7 @@ module _ (l m : Line) (alike : AlikeWhereUsed l m) where
 
   pub same-checks : outcome (alignmentChecks l) ≡ outcome (alignmentChecks m)
   unfolding alignmentChecks
-  same-checks = join (unused-ignored l m alike) (join same-curve-checks same-straight-checks)
+  same-checks = join (unused-ignored l m alike _) (join same-curve-checks same-straight-checks)
 
   -- ---- the stations
 

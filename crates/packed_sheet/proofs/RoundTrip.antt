@@ -15,7 +15,7 @@ use Rattle.packed_sheet.specs.Reading.{lineOf, readChecksAs, readLineAs,
 use Rattle.packed_sheet.specs.Writing.{sheetOf, writeChecks}
 use Rattle.packed_sheet.proofs.Frames.{framed}
 use Rattle.packed_sheet.proofs.WaysOut.{frame-passes, accepted-line}
-use Rattle.packed_sheet.proofs.WrittenAgain.{sheet-again}
+use Rattle.packed_sheet.proofs.WrittenAgain.{line-cleared, sheet-again}
 use Rattle.packed_sheet.proofs.ReadAgain.{line-again, read-again}
 use Rattle.packed_sheet.proofs.Editions.{numbered-holds, own-passes, known-number, edition-again, reported, reported-edition, told-edition, told-fields, both-pass}
 
@@ -50,17 +50,26 @@ written-read number line e =
     let passes = ap (λ (E : Edition). outcome (readChecksAs E s)) same ∙ again .0 in
     (passes, reported s passes ∙ ap (λ (E : Edition). E .number) same ∙ sym (known-number number (told-edition number line e)), ap (λ (E : Edition). readLineAs E s) same ∙ again .1)
 
--- What the reader reads, the writer writes, told the edition that was reported: the same bytes.
-pub read-written : (s : List ℕ) → Bytes s → outcome (readChecks s) ≡ passed
-    → (outcome (writeChecks (readEdition s) (readLine s)) ≡ passed) × (sheetOf (numbered (readEdition s)) (readLine s) ≡ s)
+-- What the reader reads, the writer takes, told the edition that was reported, and writes the same bytes.
+pub read-passes : (s : List ℕ) → outcome (readChecks s) ≡ passed → outcome (writeChecks (readEdition s) (readLine s)) ≡ passed
 unfolding editionOf
-read-written s bytes e =
-    let same = reported-edition s e in
+read-passes s e =
     let known = ap (λ (n : ℕ). outcome (editionCheck n)) (reported s e) ∙ own-passes _ in
-    let fields = ap (λ (E : Edition). outcome (fieldChecks (E .greatest) (readLine s))) same ∙ accepted-line (editionOf s) s e in
-    (both-pass (readEdition s) (readLine s) known fields, ap (λ (E : Edition). sheetOf E (readLine s)) same ∙ read-then-write (editionOf s) s bytes e)
+    let fields = ap (λ (E : Edition). outcome (fieldChecks (E .greatest) (readLine s))) (reported-edition s e) ∙ accepted-line (editionOf s) s e in
+    both-pass (readEdition s) (readLine s) known fields
+
+pub read-written : (s : List ℕ) → Bytes s → outcome (readChecks s) ≡ passed → sheetOf (numbered (readEdition s)) (readLine s) ≡ s
+read-written s bytes e = ap (λ (E : Edition). sheetOf E (readLine s)) (reported-edition s e) ∙ read-then-write (editionOf s) s bytes e
+
+-- The unused entries of the line that is read are zero.
+pub read-cleared : (s : List ℕ) → outcome (readChecks s) ≡ passed → cleared (readLine s) ≡ readLine s
+unfolding readLineAs
+read-cleared s e =
+    let E : Edition = editionOf s in
+    let line = ap (λ (o : Outcome). lineAfter o (lineOf E s)) e in
+    ap cleared line ∙ line-cleared E s (framed E s (frame-passes E s e)) ∙ sym line
 
 -- The same of an answer of the reader's: its edition and line, where nothing is refused, have the sheet that was read.
 pub answer-again : (s : List ℕ) {o : Outcome} {edition : ℕ} {line : Line} → Bytes s → o ≡ outcome (readChecks s) → edition ≡ readEdition s → line ≡ readLine s
     → o ≡ passed → sheetOf (numbered edition) line ≡ s
-answer-again s bytes answer n l e = (λ j. sheetOf (numbered (n j)) (l j)) ∙ read-written s bytes (sym answer ∙ e) .1
+answer-again s bytes answer n l e = (λ j. sheetOf (numbered (n j)) (l j)) ∙ read-written s bytes (sym answer ∙ e)

@@ -1,4 +1,4 @@
--- The calls `write` and `read` undo each other. Assumes nothing.
+-- The calls `write` and `read` undo each other, in either edition. Assumes nothing.
 use mathlib.Core.Path.{_≡_, sym, _∙_, ap}
 use mathlib.Core.List.{List, _++_}
 use Prim.Native.Nat.{ℕ, _≤_}
@@ -8,49 +8,46 @@ use Rattle.refusals.specs.Filling.{filled, fillReplyOf}
 use Rattle.refusals.proofs.Filled.{found}
 use Rattle.refusals.proofs.FillWays.{known-fill}
 use Rattle.line.specs.declared.Line.{Line}
-use Rattle.line.specs.Checks.{lineChecks}
 use Rattle.line.specs.Entries.{cleared}
-use Rattle.packed_sheet.specs.Layout.{firstEdition}
-use Rattle.packed_sheet.specs.Reading.{readChecks, readLine}
-use Rattle.packed_sheet.specs.Writing.{sheetOf, sheetIn}
-use Rattle.packed_sheet.proofs.Fitting.{first-holds}
-use Rattle.packed_sheet.proofs.RoundTrip.{write-then-read}
+use Rattle.packed_sheet.specs.Layout.{numbered}
+use Rattle.packed_sheet.specs.Reading.{readChecks, readLine, readEdition}
+use Rattle.packed_sheet.specs.Writing.{sheetOf, writeChecks, sheetIn}
+use Rattle.packed_sheet.proofs.RoundTrip.{written-read, read-passes}
 use Rattle.sheet.specs.declared.reader.ReadAnswer.{ReadAnswer}
 use Rattle.refusals.specs.declared.FillAnswer.{FillAnswer}
 use Rattle.refusals.specs.Order.{outcome}
-use Rattle.packed_sheet.proofs.WaysOut.{accepted-line}
 
--- What `write` put into the caller's bytes, `read` gives back: the premises are the two contracts, and that `write` returned its count.
-pub written-and-read : (line : Line) (lent bytes : List ℕ) (a : FillAnswer) {count : ℕ} (r : ReadAnswer)
-    → fillReplyOf a ≡ sheetIn firstEdition line lent .reply
-    → bytes ≡ sheetIn firstEdition line lent .buffer
+-- What `write` put into the caller's bytes, `read` gives back, with the edition that was told: the premises are the two contracts, and that
+-- `write` returned its count.
+pub written-and-read : (number : ℕ) (line : Line) (lent bytes : List ℕ) (a : FillAnswer) {count : ℕ} (r : ReadAnswer)
+    → fillReplyOf a ≡ sheetIn number line lent .reply
+    → bytes ≡ sheetIn number line lent .buffer
     → fillReplyOf a ≡ filled count
-    → outcomeOf (r .verdict) ≡ outcome (readChecks firstEdition (take count bytes))
-    → r .line ≡ readLine firstEdition (take count bytes)
-    → (outcomeOf (r .verdict) ≡ passed) × (r .line ≡ cleared line)
+    → outcomeOf (r .verdict) ≡ outcome (readChecks (take count bytes))
+    → r .edition ≡ readEdition (take count bytes)
+    → r .line ≡ readLine (take count bytes)
+    → (outcomeOf (r .verdict) ≡ passed) × (r .edition ≡ number) × (r .line ≡ cleared line)
 unfolding sheetIn
-written-and-read line lent bytes a {count} r answer memory counted says content =
-    let E = firstEdition in
-    let told = found (lineChecks line) (sheetOf E line) lent (sym answer ∙ counted) in
-    let again = write-then-read E first-holds line (told .checked) in
-    let sheet : take count bytes ≡ sheetOf E line = ap (take count) memory ∙ told .front in
-    (says ∙ ap (λ (s : List ℕ). outcome (readChecks E s)) sheet ∙ again .0, content ∙ ap (readLine E) sheet ∙ again .1)
+written-and-read number line lent bytes a {count} r answer memory counted says edition content =
+    let told = found (writeChecks number line) (sheetOf (numbered number) line) lent (sym answer ∙ counted) in
+    let again = written-read number line (told .checked) in
+    let sheet : take count bytes ≡ sheetOf (numbered number) line = ap (take count) memory ∙ told .front in
+    (says ∙ ap (λ (s : List ℕ). outcome (readChecks s)) sheet ∙ again .0, edition ∙ ap readEdition sheet ∙ again .1, content ∙ ap (λ (s : List ℕ). readLine s) sheet ∙ again .2)
 
--- What `read` took from a sheet, `write` puts back into any bytes that are enough: the premises are the two contracts, and that
--- `read` refused nothing.
+-- What `read` took from a sheet, `write` puts back into any bytes that are enough, told the edition that was reported: the premises are the
+-- two contracts, and that `read` refused nothing.
 pub read-and-written : (sheet lent bytes : List ℕ) (r : ReadAnswer) (a : FillAnswer)
-    → outcomeOf (r .verdict) ≡ outcome (readChecks firstEdition sheet)
-    → r .line ≡ readLine firstEdition sheet
-    → (outcomeOf (r .verdict) ≡ passed → sheetOf firstEdition (r .line) ≡ sheet)
+    → outcomeOf (r .verdict) ≡ outcome (readChecks sheet)
+    → r .edition ≡ readEdition sheet
+    → r .line ≡ readLine sheet
+    → (outcomeOf (r .verdict) ≡ passed → sheetOf (numbered (r .edition)) (r .line) ≡ sheet)
     → outcomeOf (r .verdict) ≡ passed
     → length sheet ≤ length lent
-    → fillReplyOf a ≡ sheetIn firstEdition (r .line) lent .reply
-    → bytes ≡ sheetIn firstEdition (r .line) lent .buffer
+    → fillReplyOf a ≡ sheetIn (r .edition) (r .line) lent .reply
+    → bytes ≡ sheetIn (r .edition) (r .line) lent .buffer
     → (fillReplyOf a ≡ filled (length sheet)) × (bytes ≡ sheet ++ drop (length sheet) lent)
 unfolding sheetIn
-read-and-written sheet lent bytes r a says content again accepted room answer memory =
-    let E = firstEdition in
-    let checked : outcome (lineChecks (r .line)) ≡ passed =
-    ap (λ (l : Line). outcome (lineChecks l)) content ∙ accepted-line E sheet (sym says ∙ accepted) in
-    let given = known-fill (lineChecks (r .line)) (sheetOf E (r .line)) sheet lent checked (again accepted) room in
+read-and-written sheet lent bytes r a says edition content again accepted room answer memory =
+    let checked = (λ j. outcome (writeChecks (edition j) (content j))) ∙ read-passes sheet (sym says ∙ accepted) in
+    let given = known-fill (writeChecks (r .edition) (r .line)) (sheetOf (numbered (r .edition)) (r .line)) sheet lent checked (again accepted) room in
     (answer ∙ given .0, memory ∙ given .1)

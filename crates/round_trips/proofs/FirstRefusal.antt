@@ -9,15 +9,14 @@ use Rattle.refusals.specs.Filling.{unfilled, withRoom}
 use Rattle.refusals.proofs.InOrder.{first-in-order}
 use Rattle.refusals.proofs.Filled.{unfound}
 use Rattle.line.specs.declared.Line.{Line}
-use Rattle.line.specs.Checks.{lineChecks}
-use Rattle.packed_sheet.specs.Layout.{Edition}
+use Rattle.packed_sheet.specs.Layout.{numbered}
 use Rattle.packed_sheet.specs.Reading.{readChecks}
-use Rattle.packed_sheet.specs.Writing.{sheetOf, sheetIn}
+use Rattle.packed_sheet.specs.Writing.{sheetOf, writeChecks, sheetIn}
 
-pub read-first : (E : Edition) (sheet : List ℕ) {n p : ℕ} → outcome (readChecks E sheet) ≡ refused n p → First (readChecks E sheet) n p
-read-first E sheet e = first-in-order (readChecks E sheet) e
+pub read-first : (sheet : List ℕ) {n p : ℕ} → outcome (readChecks sheet) ≡ refused n p → First (readChecks sheet) n p
+read-first sheet e = first-in-order (readChecks sheet) e
 
-pub write-first : (E : Edition) (line : Line) (bytes : List ℕ) {n p : ℕ} → sheetIn E line bytes .reply ≡ unfilled n p
-    → First (withRoom (lineChecks line) (sheetOf E line) bytes) n p
+pub write-first : (number : ℕ) (line : Line) (bytes : List ℕ) {n p : ℕ} → sheetIn number line bytes .reply ≡ unfilled n p
+    → First (withRoom (writeChecks number line) (sheetOf (numbered number) line) bytes) n p
 unfolding sheetIn
-write-first E line bytes e = unfound (lineChecks line) (sheetOf E line) bytes e .first
+write-first number line bytes e = unfound (writeChecks number line) (sheetOf (numbered number) line) bytes e .first

@@ -4,7 +4,7 @@ use mathlib.Core.List.{List, [], _∷_}
 use Prim.Native.Nat.{ℕ}
 use Rattle.refusals.specs.Outcomes.{firstOf, refused}
 use Rattle.refusals.specs.Order.{outcome}
-use Rattle.line.specs.Checks.{startCheck, headChecks, distanceCheck, curveChecks, bodyChecks, lineChecks}
+use Rattle.line.specs.Checks.{startCheck, headChecks, distanceCheck, curveChecks, bodyChecks, fieldChecks}
 use Rattle.line.specs.Entries.{entries}
 use Rattle.bits.specs.Bits.{valueOf, bitsAt, valuesAt}
 use Rattle.packed_sheet.specs.Reading.{headOf, distanceOf, curveOf, lineOf, sizeChecks, frameChecks, readChecks, readLine}
@@ -26,5 +26,5 @@ pub record Examples : Type 0 where
   pub case-4-printed : sheetText sheet4 ≡ ascii "REFUSED 13 1\n"
 
 pub examples : Examples
-unfolding firstOf startCheck headChecks distanceCheck curveChecks bodyChecks lineChecks entries valueOf bitsAt valuesAt headOf distanceOf curveOf lineOf sizeChecks frameChecks readChecks readLine underSpeed frictionAt leastSpiralAt radiusServes spiralServes designChecks designChecksAt alignmentChecks ascii digitsWithin decimal words refusalLine sheetChecks sheetText
+unfolding firstOf startCheck headChecks distanceCheck curveChecks bodyChecks fieldChecks entries valueOf bitsAt valuesAt headOf distanceOf curveOf lineOf sizeChecks frameChecks readChecks readLine underSpeed frictionAt leastSpiralAt radiusServes spiralServes designChecks designChecksAt alignmentChecks ascii digitsWithin decimal words refusalLine sheetChecks sheetText
 examples = record { reader-first = refl; case-4 = refl; case-4-printed = refl }

@@ -9,7 +9,7 @@ use Rattle.refusals.specs.Outcomes.{firstOf}
 use Rattle.refusals.specs.Filling.{filled, unfilled, withRoom, fill}
 use Rattle.line.specs.declared.Curve.{Curve}
 use Rattle.line.specs.declared.Line.{Line}
-use Rattle.line.specs.Checks.{startCheck, headChecks, distanceCheck, curveChecks, bodyChecks, lineChecks}
+use Rattle.line.specs.Checks.{startCheck, headChecks, distanceCheck, curveChecks, bodyChecks, fieldChecks}
 use Rattle.elements.specs.WorkingRule.{rounded, fullAngle, halfAngle, spiralAngle, term, alternating, sineOf, cosineOf, t2, t3, t4, unitX, unitY, spiralX, spiralY, centreOf, shiftOf, arcOf, tanOf, tangentOf}
 use Rattle.elements.specs.Answer.{arcCheck}
 use Rattle.line.specs.Speeds.{underSpeed}
@@ -100,7 +100,7 @@ pub record Examples : Type 0 where
   pub last-straight : stationsIn (lineOf 1 (500000 ∷ 180990 ∷ []) (curve1 350000 40000 ∷ [])) row .reply ≡ unfilled 15 1
 
 pub examples : Examples
-unfolding firstOf startCheck headChecks distanceCheck curveChecks bodyChecks lineChecks rounded fullAngle halfAngle spiralAngle term alternating sineOf cosineOf t2 t3 t4 unitX unitY spiralX spiralY centreOf shiftOf arcOf tanOf tangentOf arcCheck underSpeed frictionAt leastSpiralAt radiusServes spiralServes spiralAt arcAt tangentAt tangentBefore tangentAfter straightAt formerST pointsAt endOf curveStations stationsOf stationRow designChecks designChecksAt straightCheck alignmentChecks withRoom fill stationsIn
+unfolding firstOf startCheck headChecks distanceCheck curveChecks bodyChecks fieldChecks rounded fullAngle halfAngle spiralAngle term alternating sineOf cosineOf t2 t3 t4 unitX unitY spiralX spiralY centreOf shiftOf arcOf tanOf tangentOf arcCheck underSpeed frictionAt leastSpiralAt radiusServes spiralServes spiralAt arcAt tangentAt tangentBefore tangentAfter straightAt formerST pointsAt endOf curveStations stationsOf stationRow designChecks designChecksAt straightCheck alignmentChecks withRoom fill stationsIn
 examples =
     record {
       case-1 = refl;

@@ -14,7 +14,7 @@ module _ (line : Line) (ok : Accepted line) where
   unfolding spiralAt
   spiral-between i h = natural (1000 * curveAt line i .spiral) (omega arith) (omega (arith, ok .in-range .curve i h .L-most))
 
-  pub former-between : (i : ℕ) → i ≤ line .count → Between (formerST line i) 0 (200000000000 + 32000000000 * i)
+  pub former-between : (i : ℕ) → i ≤ line .count → Between (formerST line i) 0 (4000000000000 + 32000000000 * i)
   unfolding formerST
   former-between zero h = natural (1000 * line .start) (omega arith) (omega (arith, ok .in-range .start-most))
   former-between (suc i) h =

@@ -1,0 +1,51 @@
+-- A converted sheet is converted back, to the same bytes. Assumes nothing.
+use mathlib.Core.Path.{_≡_, sym, _∙_, ap}
+use mathlib.Core.Bool.{Bool}
+use mathlib.Core.List.{List}
+use Prim.Native.Nat.{ℕ, _≤_}
+use lib.Dec.{leb, eqb}
+use borrow.Author.Tests.{eq-eqb, le-leb}
+use Rattle.refusals.specs.Outcomes.{passed, need, _▹_}
+use Rattle.refusals.specs.Order.{outcome}
+use Rattle.line.specs.declared.Line.{Line}
+use Rattle.line.proofs.InRange.{line-in-range}
+use Rattle.bits.specs.Bits.{Bytes}
+use Rattle.packed_sheet.specs.declared.Edition.{Edition}
+use Rattle.packed_sheet.specs.Layout.{numbered}
+use Rattle.packed_sheet.specs.Reading.{readChecks, readLine, editionOf, readEdition}
+use Rattle.packed_sheet.specs.Writing.{sheetOf}
+use Rattle.packed_sheet.proofs.Editions.{of-both, reported}
+use Rattle.packed_sheet.proofs.RoundTrip.{read-passes, read-written}
+use Rattle.packed_sheet.proofs.Editions.{told-fields}
+use Rattle.conversion.specs.Conversion.{otherNumber, askedChecks, convertChecks, converted}
+use Rattle.conversion.proofs.Accepted.{reads, is-other}
+use Rattle.conversion.proofs.SameLine.{same-line}
+
+-- The other of the other is the first.
+other-other : (number : ℕ) → otherNumber (otherNumber (numbered number .number)) ≡ numbered number .number
+unfolding otherNumber
+other-other = of-both (λ (E : Edition). otherNumber (otherNumber (E .number)) ≡ E .number) (λ j. 1) (λ j. 2)
+
+module _ (sheet : List ℕ) (asked : ℕ) (accepted : outcome (convertChecks sheet asked) ≡ passed) where
+  abbrev own : ℕ
+  own = readEdition sheet
+
+  -- The edition that was read is the other of the one that was asked for.
+  back : own ≡ otherNumber asked
+  unfolding editionOf
+  back =
+      let read = reported sheet (reads sheet asked accepted) in
+      read ∙ sym (other-other _) ∙ ap (λ (n : ℕ). otherNumber (otherNumber n)) (sym read) ∙ ap otherNumber (sym (is-other sheet asked accepted))
+
+  near-back : readLine sheet .start ≤ numbered own .greatest
+  near-back = line-in-range (readLine sheet) (told-fields own (readLine sheet) (read-passes sheet (reads sheet asked accepted))) .start-most
+
+  pub converted-back : outcome (convertChecks (converted sheet asked) own) ≡ passed
+  unfolding convertChecks askedChecks
+  converted-back =
+      let same = same-line sheet asked accepted in
+      rw (same .reads, same .edition, same .line, eq-eqb own (otherNumber asked) back, le-leb (readLine sheet .start) (numbered own .greatest) near-back)
+
+  pub same-bytes : Bytes sheet → converted (converted sheet asked) own ≡ sheet
+  unfolding converted
+  same-bytes bytes = ap (sheetOf (numbered own)) (same-line sheet asked accepted .line) ∙ read-written sheet bytes (reads sheet asked accepted)

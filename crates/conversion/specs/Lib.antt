@@ -1,0 +1,2 @@
+-- What the contract of `conversion` cites.
+pub mod Conversion
