@@ -101,6 +101,7 @@ whole-bytes E n = (omega arith, omega arith)
 
 pub record Examples : Type 0 where
   pub case-9-read : outcome (readChecks sheet9) ≡ passed
+  pub case-9-edition : readEdition sheet9 ≡ 1
   pub case-9-line : readLine sheet9 ≡ line9 (500000 ∷ replicate 64 0) (replicate 64 blankCurve)
   pub case-9-written : sheetOf firstEdition (line9 (500000 ∷ replicate 64 0) (replicate 64 blankCurve)) ≡ sheet9
   pub case-10-fill : outcome (readChecks (nineBytes ++ (0x01 ∷ []))) ≡ refused 7 0
@@ -174,6 +175,7 @@ unfolding startCheck headChecks distanceCheck curveChecks bodyChecks fieldChecks
 examples =
     record {
       case-9-read = refl;
+      case-9-edition = refl;
       case-9-line = refl;
       case-9-written = refl;
       case-10-fill = refl;

@@ -1,4 +1,4 @@
--- What a caller in C or Rust reads off an answer: the upper 32 bits are 0 after a count and else the refusal's number, 1 to 23; the lower
+-- What a caller in C or Rust reads off an answer: the upper 32 bits are 0 after a count and else the refusal's number, 1 to 24; the lower
 -- ones are the count or the place. Assumes nothing.
 use mathlib.Core.Path.{_≡_, refl}
 use mathlib.Core.List.{List}
@@ -12,16 +12,20 @@ use Rattle.refusals.specs.Order.{Checks, unchecked, outcome}
 use Rattle.refusals.proofs.Numbers.{Refuses, refusal-numbers, wider}
 use Rattle.refusals.proofs.InOrder.{held}
 use Rattle.refusals.proofs.Joining.{passed-left, passed-right}
-use Rattle.line.specs.Checks.{curveChecks, lineChecks}
+use Rattle.line.specs.Checks.{curveChecks, fieldChecks}
 use Rattle.line.proofs.InRange.{line-in-range}
 use Rattle.line.proofs.Numbers.{curve-numbers, line-numbers}
 use Rattle.line_numbers.specs.Numbers.{lineOf, countCheck, numbersChecks}
 use Rattle.line_numbers.proofs.Storing.{line-length}
 use Rattle.line_numbers.proofs.LineAndNumbers.{few-counted}
-use Rattle.packed_sheet.specs.Layout.{firstEdition}
-use Rattle.packed_sheet.specs.Reading.{readChecks, readLine}
+use Rattle.packed_sheet.specs.Layout.{numbered, editionCheck}
+use Rattle.packed_sheet.specs.Reading.{editionOf, numberAfter, readChecks, readLine, readEdition}
 use Rattle.packed_sheet.proofs.Frames.{framed, count-below}
 use Rattle.round_trips.proofs.Numbers.{read-numbers}
+use Rattle.packed_sheet.proofs.Editions.{numbered-holds, edition-holds, reported}
+use Rattle.conversion.specs.Conversion.{convertChecks, converted, conversion}
+use Rattle.conversion.proofs.Accepted.{reads}
+use Rattle.conversion.proofs.Refusals.{convert-numbers}
 use Rattle.packed_sheet.proofs.WaysOut.{frame-passes, accepted-line, sheet-length}
 use Rattle.elements.specs.Answer.{arcCheck, elementChecks}
 use Rattle.stationing.specs.Answer.{alignmentChecks}
@@ -38,7 +42,7 @@ use Rattle.profile_numbers.specs.Numbers.{profileOf, heightNumbers, countCheck 
 use Rattle.station_report.specs.Report.{sheetChecks, sheetText}
 use Rattle.station_report.proofs.Fits.{sheet-numbers, fits}
 use Rattle.pokyandi.specs.Answers.{answerNumber}
-use Rattle.pokyandi.specs.Calls.{sheetStations, sheetPegChecks, sheetPeg, checkReply, sheetNumbers, numbersSheet, pointNumbers, elementValues, elementNumbers}
+use Rattle.pokyandi.specs.Calls.{sheetStations, sheetPegChecks, sheetPeg, checkReply, sheetNumbers, toldChecks, numbersSheet, editionReply, pointNumbers, elementValues, elementNumbers}
 
 -- The upper and the lower half of an answer tell the reply; the numbers of a call's refusals go up to a greatest one.
 abbrev pub Told : (greatest : ℕ) → FillReply → Type 0
@@ -71,14 +75,14 @@ module _ (sheet : List ℕ) where
   sheet-few : Refuses 1 16 127 (sheetChecks sheet)
   sheet-few = wider (sheetChecks sheet) (sheet-numbers sheet) (omega arith) (omega arith) (omega arith)
 
-  read-few : Refuses 1 16 127 (readChecks firstEdition sheet)
-  read-few = wider (readChecks firstEdition sheet) (read-numbers firstEdition sheet) (omega arith) (omega arith) (omega (arith, count-below firstEdition sheet refl))
+  read-few : Refuses 1 16 127 (readChecks sheet)
+  read-few = wider (readChecks sheet) (read-numbers sheet) (omega arith) (omega arith) (omega (arith, count-below (editionOf sheet) sheet refl))
 
   stations-few : outcome (sheetChecks sheet) ≡ passed → length (sheetStations sheet) < 2 ^ 32
   unfolding sheetChecks sheetStations
   stations-few e =
-      let line = readLine firstEdition sheet in
-      omega (arith, row-count line, few line (passed-right (outcome (readChecks firstEdition sheet)) (outcome (alignmentChecks line)) e))
+      let line = readLine sheet in
+      omega (arith, row-count line, few line (passed-right (outcome (readChecks sheet)) (outcome (alignmentChecks line)) e))
 
   pub stations-told : (lent : List ℕ) → Told 16 (fill (sheetChecks sheet) (sheetStations sheet) lent .reply)
   stations-told lent = reply-told 16 (omega arith) (sheetChecks sheet) (sheetStations sheet) lent sheet-few stations-few
@@ -88,18 +92,31 @@ module _ (sheet : List ℕ) where
   check-told = outcome-told 15 (sheetChecks sheet) (outcome (sheetChecks sheet)) (length (sheetStations sheet)) (sheet-numbers sheet) refl stations-few
 
   -- The sheet's own bytes are as many as n calls for, or there is a refusal.
-  pub rewrite-told : (lent : List ℕ) → Told 16 (fill (readChecks firstEdition sheet) sheet lent .reply)
+  pub rewrite-told : (lent : List ℕ) → Told 16 (fill (readChecks sheet) sheet lent .reply)
   rewrite-told lent =
-      reply-told 16 (omega arith) (readChecks firstEdition sheet) sheet lent read-few
-      (λ e. omega (arith, framed firstEdition sheet (frame-passes firstEdition sheet e) .size, count-below firstEdition sheet refl))
+      reply-told 16 (omega arith) (readChecks sheet) sheet lent read-few
+      (λ e. omega (arith, framed (editionOf sheet) sheet (frame-passes (editionOf sheet) sheet e) .size, edition-holds sheet .narrow, count-below (editionOf sheet) sheet refl))
 
-  pub read-told : (lent : List ℕ) → Told 16 (fill (readChecks firstEdition sheet) (sheetNumbers sheet) lent .reply)
+  pub read-told : (lent : List ℕ) → Told 16 (fill (readChecks sheet) (sheetNumbers sheet) lent .reply)
   unfolding sheetNumbers
   read-told lent =
-      let E = firstEdition in
-      let line = readLine E sheet in
-      reply-told 16 (omega arith) (readChecks E sheet) (sheetNumbers sheet) lent read-few
-      (λ e. omega (arith, line-length line, line-in-range line (accepted-line E sheet e) .few))
+      let line = readLine sheet in
+      reply-told 16 (omega arith) (readChecks sheet) (sheetNumbers sheet) lent read-few
+      (λ e. omega (arith, line-length line, line-in-range line (accepted-line (editionOf sheet) sheet e) .few))
+
+  pub edition-told : Told 16 (editionReply sheet)
+  unfolding editionReply
+  edition-told =
+      outcome-told 16 (readChecks sheet) (outcome (readChecks sheet)) (readEdition sheet) read-few refl
+      (λ e. omega (arith, reported sheet e, edition-holds sheet .number))
+
+  pub convert-told : (asked : ℕ) (lent : List ℕ) → Told 24 (conversion sheet asked lent .reply)
+  unfolding conversion converted
+  convert-told asked lent =
+      let few = convert-numbers sheet asked in
+      reply-told 24 (omega arith) (convertChecks sheet asked) (converted sheet asked) lent
+      (wider (convertChecks sheet asked) few (omega arith) (omega arith) (omega (arith, count-below (editionOf sheet) sheet refl)))
+      (λ e. omega (arith, sheet-length (numbered asked) (readLine sheet), numbered-holds asked .narrow, line-in-range (readLine sheet) (accepted-line (editionOf sheet) sheet (reads sheet asked e)) .few))
 
   pub text-told : (lent : List ℕ) → Told 16 (fill unchecked (sheetText sheet) lent .reply)
   text-told lent = reply-told 16 (omega arith) unchecked (sheetText sheet) lent tt (λ e. omega (arith, fits sheet))
@@ -128,13 +145,13 @@ height-told profile lent station =
     ((omega arith, omega arith, omega arith), λ _. wider (heightChecks (profileOf profile) station) (height-numbers (profileOf profile) station) (omega arith) (omega arith) (omega arith))
     (λ e. omega arith)
 
-pub write-told : (numbers lent : List ℕ) → Told 16 (fill (numbersChecks numbers) (numbersSheet numbers) lent .reply)
-unfolding numbersChecks numbersSheet countCheck lineOf
-write-told numbers lent =
+pub write-told : (number : ℕ) (numbers lent : List ℕ) → Told 16 (fill (toldChecks number numbers) (numbersSheet number numbers) lent .reply)
+unfolding toldChecks editionCheck numbersChecks numbersSheet countCheck lineOf
+write-told number numbers lent =
     let line = lineOf numbers in
-    reply-told 16 (omega arith) (numbersChecks numbers) (numbersSheet numbers) lent
-    ((omega arith, omega arith, omega arith), λ h. wider (lineChecks line) (line-numbers line) (omega arith) (omega arith) (omega (arith, few-counted numbers (held (countCheck numbers) h))))
-    (λ e. omega (arith, sheet-length firstEdition line, few-counted numbers (passed-left (outcome (countCheck numbers)) _ e)))
+    reply-told 16 (omega arith) (toldChecks number numbers) (numbersSheet number numbers) lent
+    ((omega arith, omega arith, omega arith), λ _. ((omega arith, omega arith, omega arith), λ h. wider (fieldChecks (numbered number .greatest) line) (line-numbers _ line) (omega arith) (omega arith) (omega (arith, few-counted numbers (held (countCheck numbers) h)))))
+    (λ e. omega (arith, sheet-length (numbered number) line, numbered-holds number .narrow, few-counted numbers (passed-left (outcome (countCheck numbers)) _ (passed-right (outcome (editionCheck number)) _ e))))
 
 pub elements-told : (A R L : ℕ) (lent : List ℕ) → Told 16 (fill (elementChecks A R L) (elementNumbers A R L) lent .reply)
 unfolding elementChecks arcCheck elementNumbers elementValues

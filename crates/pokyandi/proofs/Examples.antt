@@ -5,10 +5,11 @@ use Prim.Native.Nat.{ℕ}
 use lib.IntN.{pos}
 use lib.ListN.{length, replicate}
 use Rattle.refusals.specs.Outcomes.{Outcome}
-use Rattle.refusals.specs.Filling.{filled, unfilled, countAfter, fill}
+use Rattle.refusals.specs.Filling.{filled, unfilled, countAfter, withRoom, fill}
 use Rattle.refusals.proofs.Filled.{found}
 use Rattle.line.specs.Entries.{entries}
-use Rattle.line_numbers.specs.Numbers.{numbersTo, lineNumbers, lineOf}
+use Rattle.line_numbers.specs.Numbers.{numbersTo, lineNumbers, lineOf, countCheck, numbersChecks}
+use Rattle.packed_sheet.specs.Layout.{numbered, editionCheck}
 use Rattle.packed_sheet.proofs.Examples.{sheet9}
 use Rattle.packed_sheet.proofs.Examples as sheets
 use Rattle.elements.specs.declared.Elements.{Elements}
@@ -20,8 +21,8 @@ use Rattle.station_report.specs.Report.{sheetChecks}
 use Rattle.station_report.proofs.Examples.{sheet4}
 use Rattle.station_report.proofs.Examples as refusedSheets
 use Rattle.pokyandi.specs.Answers.{answerNumber}
-use Rattle.pokyandi.specs.Calls.{sheetStations, sheetPegChecks, sheetPeg, checkReply, sheetNumbers, numbersSheet, elementNumbers, version}
-use Rattle.pokyandi.proofs.Replies.{stations-reply, refused-peg, peg-reply, found-numbers}
+use Rattle.pokyandi.specs.Calls.{sheetStations, sheetPegChecks, sheetPeg, checkReply, sheetNumbers, toldChecks, numbersSheet, editionReply, elementNumbers, version}
+use Rattle.pokyandi.proofs.Replies.{stations-reply, refused-peg, peg-reply, edition-reply, refused-edition, found-numbers}
 
 -- Case 10's sheet without its last byte.
 abbrev cut : List ℕ
@@ -30,12 +31,16 @@ cut = 0x10 ∷ 0x11 ∷ 0xA0 ∷ 0x00 ∷ 0x00 ∷ 0x00 ∷ 0x00 ∷ 0xF4 ∷ 0x
 pub record Examples : Type 0 where
   pub count : answerNumber (filled 257) ≡ 257
   pub refusal : answerNumber (unfilled 15 64) ≡ 64424509504
-  pub version-0-6-0 : version ≡ 6000
+  pub version-0-7-0 : version ≡ 7000
   -- ---- document 01's cases
   pub case-1 : elementNumbers 177764 350000 40000 ≡ 39986941 ∷ 761727 ∷ 19997824 ∷ 190454 ∷ 261638467 ∷ 180989280 ∷ []
   pub case-4-checked : checkReply sheet4 ≡ unfilled 13 1
   pub case-9-numbers : sheetNumbers sheet9 ≡ 0 ∷ 70 ∷ 8 ∷ 0 ∷ 500000 ∷ []
-  pub case-9-sheet : numbersSheet (0 ∷ 70 ∷ 8 ∷ 0 ∷ 500000 ∷ []) ≡ sheet9
+  pub case-9-sheet : numbersSheet 1 (0 ∷ 70 ∷ 8 ∷ 0 ∷ 500000 ∷ []) ≡ sheet9
+  pub case-9-edition : editionReply sheet9 ≡ filled 1
+  pub case-10-cut-edition : editionReply cut ≡ unfilled 1 0
+  pub edition-first : fill (toldChecks 3 []) (numbersSheet 3 []) [] .reply ≡ unfilled 2 0
+  pub count-second : fill (toldChecks 2 []) (numbersSheet 2 []) [] .reply ≡ unfilled 3 0
   pub case-9 : fill (sheetChecks sheet9) (sheetStations sheet9) (7 ∷ []) .reply ≡ filled 1
   pub case-9-checked : checkReply sheet9 ≡ filled 1
   pub case-9-peg : fill (sheetPegChecks sheet9 250000000) (sheetPeg sheet9 250000000) (replicate 6 (pos 7)) .reply ≡ filled 5
@@ -70,16 +75,20 @@ checked9 =
     ap (λ (o : Outcome). countAfter o (length (sheetStations sheet9))) (told .checked) ∙ ap filled (sym (told .all))
 
 pub examples : Examples
-unfolding answerNumber checkReply sheetNumbers numbersSheet numbersTo lineNumbers lineOf entries
+unfolding numbered editionCheck countCheck numbersChecks toldChecks withRoom fill answerNumber checkReply sheetNumbers numbersSheet numbersTo lineNumbers lineOf entries
 examples =
     record {
       count = refl;
       refusal = refl;
-      version-0-6-0 = refl;
+      version-0-7-0 = refl;
       case-1 = sym (found-numbers 177764 350000 40000 elements1 (found-elements 177764 350000 40000 elements1 (sym (curves.examples .case-1))));
       case-4-checked = ap (λ (o : Outcome). countAfter o (length (sheetStations sheet4))) (refusedSheets.examples .case-4);
       case-9-numbers = ap lineNumbers (sheets.examples .case-9-line);
       case-9-sheet = sheets.examples .case-9-written;
+      case-9-edition = sym (edition-reply sheet9 (sheets.examples .case-9-read) (sym (sheets.examples .case-9-edition)));
+      case-10-cut-edition = sym (refused-edition cut (sheets.examples .case-10-cut));
+      edition-first = refl;
+      count-second = refl;
       case-9 = sym (stations9 .0);
       case-9-checked = checked9;
       case-9-peg = sym (peg9 .0);

@@ -9,19 +9,20 @@ use lib.IntN.{ℤ, natAbs}
 use lib.ListN.{length}
 use borrow.Author.Tests.{le-leb}
 use Rattle.refusals.specs.Outcomes.{Outcome, passed, refused, need, _▹_}
-use Rattle.refusals.specs.Order.{Checks, unchecked, outcome}
-use Rattle.refusals.specs.Filling.{FillReply, unfilled, countAfter, withRoom, fill}
-use Rattle.refusals.proofs.Joining.{passed-right}
+use Rattle.refusals.specs.Order.{Checks, unchecked, _⨾_, outcome}
+use Rattle.refusals.specs.Filling.{FillReply, filled, unfilled, countAfter, withRoom, fill}
+use Rattle.refusals.proofs.Joining.{passed-right, regroup}
 use Rattle.refusals.proofs.FillWays.{refused-fill, refill}
 use Rattle.line.specs.declared.Line.{Line}
-use Rattle.line.specs.Checks.{lineChecks}
+use Rattle.line.specs.Checks.{fieldChecks}
 use Rattle.line.specs.Entries.{lineAfter}
 use Rattle.line.proofs.InRange.{line-in-range}
 use Rattle.line_numbers.specs.Numbers.{lineNumbers, fewCheck, lineOf, countCheck, numbersChecks}
-use Rattle.packed_sheet.specs.Layout.{firstEdition}
-use Rattle.packed_sheet.specs.Reading.{readChecks, readLine}
-use Rattle.packed_sheet.specs.Writing.{sheetOf, sheetIn}
+use Rattle.packed_sheet.specs.Layout.{numbered, editionCheck}
+use Rattle.packed_sheet.specs.Reading.{editionOf, readChecks, readLine, readEdition}
+use Rattle.packed_sheet.specs.Writing.{sheetOf, writeChecks, sheetIn}
 use Rattle.packed_sheet.proofs.WaysOut.{accepted-line}
+use Rattle.packed_sheet.proofs.RoundTrip.{read-passes}
 use Rattle.elements.specs.declared.Elements.{Elements}
 use Rattle.elements.specs.Answer.{valuesBy, elementChecks}
 use Rattle.elements.proofs.Replies.{FoundElements}
@@ -34,7 +35,7 @@ use Rattle.coordinates.proofs.Accepted.{line-accepted}
 use Rattle.pegs.specs.Pegs.{pegChecks}
 use Rattle.pegs.specs.Numbers.{stationNumbers}
 use Rattle.station_report.specs.Report.{sheetChecks}
-use Rattle.pokyandi.specs.Calls.{sheetStations, sheetPegChecks, sheetPeg, checkReply, sheetNumbers, numbersSheet, pointNumbers, elementValues, elementNumbers, numbersOf}
+use Rattle.pokyandi.specs.Calls.{sheetStations, sheetPegChecks, sheetPeg, checkReply, sheetNumbers, toldChecks, numbersSheet, editionReply, pointNumbers, elementValues, elementNumbers, numbersOf}
 
 -- The numbers of a line that passes a call's checks.
 line-reply : (checks : Checks) (whole : Line) → outcome checks ≡ passed → whole .count ≤ 64 → {line : Line} → line ≡ whole
@@ -49,22 +50,22 @@ line-reply checks whole accepted most {line} same buffer told =
 -- ---- the calls on a sheet
 
 -- The reader's refusal is the sheet's.
-pub refused-sheet : (sheet row : List ℕ) {n p : ℕ} → outcome (readChecks firstEdition sheet) ≡ refused n p
+pub refused-sheet : (sheet row : List ℕ) {n p : ℕ} → outcome (readChecks sheet) ≡ refused n p
     → (unfilled n p ≡ fill (sheetChecks sheet) (sheetStations sheet) row .reply)
     × (row ≡ fill (sheetChecks sheet) (sheetStations sheet) row .buffer)
 unfolding sheetChecks
 refused-sheet sheet row e =
-    refused-fill (sheetChecks sheet) (sheetStations sheet) row (ap (λ (o : Outcome). o ▹ outcome (alignmentChecks (readLine firstEdition sheet))) e)
+    refused-fill (sheetChecks sheet) (sheetStations sheet) row (ap (λ (o : Outcome). o ▹ outcome (alignmentChecks (readLine sheet))) e)
 
-pub refused-peg : (sheet : List ℕ) (station : ℕ) (buffer : List ℤ) {n p : ℕ} → outcome (readChecks firstEdition sheet) ≡ refused n p
+pub refused-peg : (sheet : List ℕ) (station : ℕ) (buffer : List ℤ) {n p : ℕ} → outcome (readChecks sheet) ≡ refused n p
     → (unfilled n p ≡ fill (sheetPegChecks sheet station) (sheetPeg sheet station) buffer .reply)
     × (buffer ≡ fill (sheetPegChecks sheet station) (sheetPeg sheet station) buffer .buffer)
 unfolding sheetPegChecks
 refused-peg sheet station buffer e =
     refused-fill (sheetPegChecks sheet station) (sheetPeg sheet station) buffer
-    (ap (λ (o : Outcome). o ▹ outcome (pegChecks (readLine firstEdition sheet) station)) e)
+    (ap (λ (o : Outcome). o ▹ outcome (pegChecks (readLine sheet) station)) e)
 
-module _ (sheet : List ℕ) (accepted : outcome (readChecks firstEdition sheet) ≡ passed) {line : Line} (same : line ≡ readLine firstEdition sheet) where
+module _ (sheet : List ℕ) (accepted : outcome (readChecks sheet) ≡ passed) {line : Line} (same : line ≡ readLine sheet) where
   -- The calculator's answer for the sheet's line is the one for the sheet.
   pub stations-reply : (row : List ℕ) {reply : FillReply} {after : List ℕ}
       → (reply ≡ stationsIn line row .reply) × (after ≡ stationsIn line row .buffer)
@@ -90,26 +91,24 @@ module _ (sheet : List ℕ) (accepted : outcome (readChecks firstEdition sheet) 
       (ap (λ (l : Line). stationNumbers l station) same) told
 
   -- The writer's is the one for the sheet's own bytes.
-  pub rewrite-reply : sheetOf firstEdition line ≡ sheet → (bytes : List ℕ) {reply : FillReply} {after : List ℕ}
-      → (reply ≡ sheetIn firstEdition line bytes .reply) × (after ≡ sheetIn firstEdition line bytes .buffer)
-      → (reply ≡ fill (readChecks firstEdition sheet) sheet bytes .reply)
-      × (after ≡ fill (readChecks firstEdition sheet) sheet bytes .buffer)
+  pub rewrite-reply : {number : ℕ} → number ≡ readEdition sheet → sheetOf (numbered number) line ≡ sheet → (bytes : List ℕ) {reply : FillReply} {after : List ℕ}
+      → (reply ≡ sheetIn number line bytes .reply) × (after ≡ sheetIn number line bytes .buffer)
+      → (reply ≡ fill (readChecks sheet) sheet bytes .reply)
+      × (after ≡ fill (readChecks sheet) sheet bytes .buffer)
   unfolding sheetIn
-  rewrite-reply again bytes told =
-      let E = firstEdition in
-      let checks : outcome (lineChecks line) ≡ outcome (readChecks E sheet) =
-      ap (λ (l : Line). outcome (lineChecks l)) same ∙ accepted-line E sheet accepted ∙ sym accepted in
-      refill (lineChecks line) (readChecks E sheet) (sheetOf E line) sheet bytes checks again told
+  rewrite-reply {number} edition again bytes told =
+      let checks : outcome (writeChecks number line) ≡ outcome (readChecks sheet) =
+      (λ j. outcome (writeChecks (edition j) (same j))) ∙ read-passes sheet accepted ∙ sym accepted in
+      refill (writeChecks number line) (readChecks sheet) (sheetOf (numbered number) line) sheet bytes checks again told
 
   -- The numbers of the sheet's line.
   pub numbers-reply : (buffer : List ℕ) {reply : FillReply} {after : List ℕ}
       → (reply ≡ fill (fewCheck line) (lineNumbers line) buffer .reply) × (after ≡ fill (fewCheck line) (lineNumbers line) buffer .buffer)
-      → (reply ≡ fill (readChecks firstEdition sheet) (sheetNumbers sheet) buffer .reply)
-      × (after ≡ fill (readChecks firstEdition sheet) (sheetNumbers sheet) buffer .buffer)
+      → (reply ≡ fill (readChecks sheet) (sheetNumbers sheet) buffer .reply)
+      × (after ≡ fill (readChecks sheet) (sheetNumbers sheet) buffer .buffer)
   unfolding sheetNumbers
   numbers-reply =
-      let E = firstEdition in
-      line-reply (readChecks E sheet) (readLine E sheet) accepted (line-in-range (readLine E sheet) (accepted-line E sheet accepted) .few) same
+      line-reply (readChecks sheet) (readLine sheet) accepted (line-in-range (readLine sheet) (accepted-line (editionOf sheet) sheet accepted) .few) same
 
 -- The numbers of the line of points.
 pub points-reply : (v e start : ℕ) (points : List ℤ) (curves : List ℕ) → outcome (fromPointsChecks v e start points curves) ≡ passed
@@ -124,26 +123,28 @@ points-reply v e start points curves accepted same =
     line-reply (fromPointsChecks v e start points curves) whole accepted (few whole (line-accepted v e start points curves accepted))
     (same ∙ ap (λ (o : Outcome). lineAfter o whole) accepted)
 
--- The refusal of a line's count is that of its numbers, and where there is none the writer's answer for their line is the one for them.
-pub refused-count : (numbers buffer : List ℕ) {n p : ℕ} → outcome (countCheck numbers) ≡ refused n p
-    → (unfilled n p ≡ fill (numbersChecks numbers) (numbersSheet numbers) buffer .reply)
-    × (buffer ≡ fill (numbersChecks numbers) (numbersSheet numbers) buffer .buffer)
-unfolding numbersChecks
-refused-count numbers buffer e =
-    refused-fill (numbersChecks numbers) (numbersSheet numbers) buffer (ap (λ (o : Outcome). o ▹ outcome (lineChecks (lineOf numbers))) e)
+-- The refusal of the edition or of a line's count is that of its numbers, and where there is none the writer's answer for their line is the one
+-- for them.
+pub refused-told : (number : ℕ) (numbers buffer : List ℕ) {n p : ℕ} → outcome (editionCheck number ⨾ countCheck numbers) ≡ refused n p
+    → (unfilled n p ≡ fill (toldChecks number numbers) (numbersSheet number numbers) buffer .reply)
+    × (buffer ≡ fill (toldChecks number numbers) (numbersSheet number numbers) buffer .buffer)
+unfolding toldChecks numbersChecks
+refused-told number numbers buffer e =
+    refused-fill (toldChecks number numbers) (numbersSheet number numbers) buffer
+    (sym (regroup (outcome (editionCheck number)) (outcome (countCheck numbers)) _) ∙ ap (λ (o : Outcome). o ▹ outcome (fieldChecks (numbered number .greatest) (lineOf numbers))) e)
 
-pub write-reply : (numbers bytes : List ℕ) {line : Line} {reply : FillReply} {after : List ℕ} → outcome (countCheck numbers) ≡ passed
+pub write-reply : (number : ℕ) (numbers bytes : List ℕ) {line : Line} {reply : FillReply} {after : List ℕ} → outcome (editionCheck number ⨾ countCheck numbers) ≡ passed
     → line ≡ lineAfter (outcome (countCheck numbers)) (lineOf numbers)
-    → (reply ≡ sheetIn firstEdition line bytes .reply) × (after ≡ sheetIn firstEdition line bytes .buffer)
-    → (reply ≡ fill (numbersChecks numbers) (numbersSheet numbers) bytes .reply)
-    × (after ≡ fill (numbersChecks numbers) (numbersSheet numbers) bytes .buffer)
-unfolding sheetIn numbersChecks numbersSheet
-write-reply numbers bytes {line} counted read told =
-    let E = firstEdition in
+    → (reply ≡ sheetIn number line bytes .reply) × (after ≡ sheetIn number line bytes .buffer)
+    → (reply ≡ fill (toldChecks number numbers) (numbersSheet number numbers) bytes .reply)
+    × (after ≡ fill (toldChecks number numbers) (numbersSheet number numbers) bytes .buffer)
+unfolding sheetIn writeChecks toldChecks numbersChecks numbersSheet
+write-reply number numbers bytes {line} both read told =
+    let counted = passed-right (outcome (editionCheck number)) _ both in
     let same : line ≡ lineOf numbers = read ∙ ap (λ (o : Outcome). lineAfter o (lineOf numbers)) counted in
-    let checks : outcome (lineChecks line) ≡ outcome (numbersChecks numbers) =
-    λ j. sym counted j ▹ outcome (lineChecks (same j)) in
-    refill (lineChecks line) (numbersChecks numbers) (sheetOf E line) (numbersSheet numbers) bytes checks (ap (sheetOf E) same) told
+    let checks : outcome (writeChecks number line) ≡ outcome (toldChecks number numbers) =
+    λ j. outcome (editionCheck number) ▹ sym counted j ▹ outcome (fieldChecks (numbered number .greatest) (same j)) in
+    refill (writeChecks number line) (toldChecks number numbers) (sheetOf (numbered number) line) (numbersSheet number numbers) bytes checks (ap (sheetOf (numbered number)) same) told
 
 -- No sheet has more than 257 stations, so that such a row is never too small.
 pub check-reply : (sheet row : List ℕ) → 257 ≤ length row → fill (sheetChecks sheet) (sheetStations sheet) row .reply ≡ checkReply sheet
@@ -151,14 +152,23 @@ unfolding fill withRoom checkReply sheetStations sheetChecks
 check-reply sheet row wide = go (outcome (sheetChecks sheet)) refl
   where
     line : Line
-    line = readLine firstEdition sheet
+    line = readLine sheet
 
     go : (o : Outcome) → outcome (sheetChecks sheet) ≡ o
         → countAfter (o ▹ need (leb (length (stationRow line)) (length row)) 16 0) (length (stationRow line)) ≡ countAfter o (length (stationRow line))
     go (refused n p) e = refl
     go passed e =
-        let size = few line (passed-right (outcome (readChecks firstEdition sheet)) (outcome (alignmentChecks line)) e) in
+        let size = few line (passed-right (outcome (readChecks sheet)) (outcome (alignmentChecks line)) e) in
         rw (le-leb (length (stationRow line)) (length row) (omega (arith, wide, row-count line, size))) refl
+
+-- The number of the edition, which is counted where nothing is refused.
+pub edition-reply : (sheet : List ℕ) {number : ℕ} → outcome (readChecks sheet) ≡ passed → number ≡ readEdition sheet → filled number ≡ editionReply sheet
+unfolding editionReply
+edition-reply sheet {number} e n = ap filled n ∙ ap (λ (o : Outcome). countAfter o (readEdition sheet)) (sym e)
+
+pub refused-edition : (sheet : List ℕ) {n p : ℕ} → outcome (readChecks sheet) ≡ refused n p → unfilled n p ≡ editionReply sheet
+unfolding editionReply
+refused-edition sheet e = ap (λ (o : Outcome). countAfter o (readEdition sheet)) (sym e)
 
 -- ---- the call on one curve
 

@@ -5,9 +5,9 @@ use lib.IntN.{ℤ, natAbs}
 use lib.ListN.{length}
 use Rattle.refusals.specs.Order.{Checks, _⨾_, outcome}
 use Rattle.refusals.specs.Filling.{FillReply, countAfter}
-use Rattle.line_numbers.specs.Numbers.{lineNumbers, lineOf}
-use Rattle.packed_sheet.specs.Layout.{firstEdition}
-use Rattle.packed_sheet.specs.Reading.{readChecks, readLine}
+use Rattle.line_numbers.specs.Numbers.{lineNumbers, lineOf, numbersChecks}
+use Rattle.packed_sheet.specs.Layout.{numbered, editionCheck}
+use Rattle.packed_sheet.specs.Reading.{readChecks, readLine, readEdition}
 use Rattle.packed_sheet.specs.Writing.{sheetOf}
 use Rattle.elements.specs.declared.Elements.{Elements}
 use Rattle.elements.specs.Answer.{Values, valuesBy}
@@ -19,7 +19,7 @@ use Rattle.station_report.specs.Report.{sheetChecks}
 
 -- The stations of a sheet's line.
 unfoldable pub sheetStations : List ℕ → List ℕ
-sheetStations sheet = stationRow (readLine firstEdition sheet)
+sheetStations sheet = stationRow (readLine sheet)
 
 -- What the check of a sheet says: how many stations it has, or the first refusal of reader and calculator.
 unfoldable pub checkReply : List ℕ → FillReply
@@ -27,18 +27,25 @@ checkReply sheet = countAfter (outcome (sheetChecks sheet)) (length (sheetStatio
 
 -- The checks of a sheet and a station: the reader's, and those of a peg; and the peg as numbers.
 unfoldable pub sheetPegChecks : List ℕ → ℕ → Checks
-sheetPegChecks sheet station = readChecks firstEdition sheet ⨾ pegChecks (readLine firstEdition sheet) station
+sheetPegChecks sheet station = readChecks sheet ⨾ pegChecks (readLine sheet) station
 
 unfoldable pub sheetPeg : List ℕ → ℕ → List ℤ
-sheetPeg sheet station = stationNumbers (readLine firstEdition sheet) station
+sheetPeg sheet station = stationNumbers (readLine sheet) station
 
 -- The line of a sheet, as numbers.
 unfoldable pub sheetNumbers : List ℕ → List ℕ
-sheetNumbers sheet = lineNumbers (readLine firstEdition sheet)
+sheetNumbers sheet = lineNumbers (readLine sheet)
 
--- The sheet of a line that is given as numbers.
-unfoldable pub numbersSheet : List ℕ → List ℕ
-numbersSheet numbers = sheetOf firstEdition (lineOf numbers)
+-- The checks of an edition that is told and a line that is given as numbers: "refusal 2 before all others"; and the sheet of that line.
+unfoldable pub toldChecks : ℕ → List ℕ → Checks
+toldChecks number numbers = editionCheck number ⨾ numbersChecks (numbered number .greatest) numbers
+
+unfoldable pub numbersSheet : ℕ → List ℕ → List ℕ
+numbersSheet number numbers = sheetOf (numbered number) (lineOf numbers)
+
+-- "the edition as its count after all reading checks"
+unfoldable pub editionReply : List ℕ → FillReply
+editionReply sheet = countAfter (outcome (readChecks sheet)) (readEdition sheet)
 
 -- The line of points, as numbers.
 unfoldable pub pointNumbers : (v e start : ℕ) → List ℤ → List ℕ → List ℕ
@@ -59,6 +66,6 @@ elementNumbers A R L = map natAbs (elementValues A R L)
 abbrev pub numbersOf : Elements → List ℕ
 numbersOf e = e .x ∷ e .y ∷ e .centre ∷ e .shift ∷ e .arc ∷ e .tangent ∷ []
 
--- The version of the library, 0.6.0: major, minor and patch in thousands.
+-- The version of the library, 0.7.0: major, minor and patch in thousands.
 abbrev pub version : ℕ
-version = (0 * 1000 + 6) * 1000 + 0
+version = (0 * 1000 + 7) * 1000 + 0

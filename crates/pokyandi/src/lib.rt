@@ -10,21 +10,21 @@ ghost use Prim.Native.Nat.{_^_, _<_};
 ghost use lib.ListN.{take};
 ghost use Rattle.refusals.specs.Order.{unchecked};
 ghost use Rattle.refusals.specs.Filling.{fill};
-ghost use Rattle.line_numbers.specs.Numbers.{numbersChecks};
-ghost use Rattle.packed_sheet.specs.Layout.{firstEdition};
-ghost use Rattle.packed_sheet.specs.Reading.{readChecks};
+ghost use Rattle.packed_sheet.specs.Reading.{readChecks, readEdition};
+ghost use Rattle.conversion.specs.Conversion.{conversion};
 ghost use Rattle.elements.specs.Answer.{elementChecks};
 ghost use Rattle.coordinates.specs.FromPoints.{fromPointsChecks};
 ghost use Rattle.profile_numbers.specs.Numbers.{heightNumbers, numbersChecks as profileNumbersChecks};
 ghost use Rattle.station_report.specs.Report.{sheetChecks, sheetText};
 ghost use Rattle.pokyandi.specs.Answers.{answerNumber};
-ghost use Rattle.pokyandi.specs.Calls.{sheetStations, sheetPegChecks, sheetPeg, checkReply, sheetNumbers, numbersSheet, pointNumbers, elementNumbers, version};
+ghost use Rattle.pokyandi.specs.Calls.{sheetStations, sheetPegChecks, sheetPeg, checkReply, sheetNumbers, toldChecks, numbersSheet, editionReply, pointNumbers, elementNumbers, version};
 use crate::answer::answer_number;
 use crate::curves::curve_numbers;
 use crate::lines::point_numbers;
 use crate::lines::sheet_numbers;
 use crate::lines::write_numbers;
 use crate::sheets::rewrite_sheet;
+use crate::sheets::sheet_edition;
 use crate::sheets::sheet_peg;
 use crate::sheets::sheet_stations;
 
@@ -59,34 +59,53 @@ pub extern "C" fn pokyandi_peg(sheet: &[u8], station: u64, peg: &mut [i64]) -> u
     answer_number(sheet_peg(sheet, station, &mut *peg))
 }
 
-// A sheet read and written again, its own bytes, at the front of `bytes`. Refusals 1 to 11, then 16.
+// A sheet read and written again in its edition, its own bytes, at the front of `bytes`. Refusals 1 to 11, then 16.
 #[no_mangle]
 pub extern "C" fn pokyandi_rewrite(sheet: &[u8], bytes: &mut [u8]) -> u64
-    ensures answer { λ r. ⌜ r ≡ answerNumber (fill (readChecks firstEdition (now (sheet .entry))) (now (sheet .entry)) (now (bytes .entry)) .reply) ⌝ }
-    ensures memory { λ _. ⌜ now (bytes .exit) ≡ fill (readChecks firstEdition (now (sheet .entry))) (now (sheet .entry)) (now (bytes .entry)) .buffer ⌝ }
+    ensures answer { λ r. ⌜ r ≡ answerNumber (fill (readChecks (now (sheet .entry))) (now (sheet .entry)) (now (bytes .entry)) .reply) ⌝ }
+    ensures memory { λ _. ⌜ now (bytes .exit) ≡ fill (readChecks (now (sheet .entry))) (now (sheet .entry)) (now (bytes .entry)) .buffer ⌝ }
 {
     answer_number(rewrite_sheet(sheet, &mut *bytes))
 }
 
 // The line of a sheet as 5 + 5 × n numbers at the front of `line`: n, V, e, start, distance 0, then side, A, R, L and the distance after
-// it for each curve. Refusals 1 to 11, then 16. The sheet of the numbers that it counts is the sheet.
+// it for each curve. Refusals 1 to 11, then 16. The sheet of the numbers that it counts, in the sheet's edition, is the sheet.
 #[no_mangle]
 pub extern "C" fn pokyandi_read(sheet: &[u8], line: &mut [u32]) -> u64
-    ensures answer { λ r. ⌜ r ≡ answerNumber (fill (readChecks firstEdition (now (sheet .entry))) (sheetNumbers (now (sheet .entry))) (now (line .entry)) .reply) ⌝ }
-    ensures memory { λ _. ⌜ now (line .exit) ≡ fill (readChecks firstEdition (now (sheet .entry))) (sheetNumbers (now (sheet .entry))) (now (line .entry)) .buffer ⌝ }
-    ensures again { λ r. ⌜ (r < 2 ^ 32 → numbersSheet (take r (now (line .exit))) ≡ now (sheet .entry)) ⌝ }
+    ensures answer { λ r. ⌜ r ≡ answerNumber (fill (readChecks (now (sheet .entry))) (sheetNumbers (now (sheet .entry))) (now (line .entry)) .reply) ⌝ }
+    ensures memory { λ _. ⌜ now (line .exit) ≡ fill (readChecks (now (sheet .entry))) (sheetNumbers (now (sheet .entry))) (now (line .entry)) .buffer ⌝ }
+    ensures again { λ r. ⌜ (r < 2 ^ 32 → numbersSheet (readEdition (now (sheet .entry))) (take r (now (line .exit))) ≡ now (sheet .entry)) ⌝ }
 {
     answer_number(sheet_numbers(sheet, &mut *line))
 }
 
-// The sheet of such a line, at the front of `bytes`. Refusal 3 where n is over 64 or there are other than 5 + 5 × n numbers, 4 to 6, 8 to
-// 11 in sheet order, 9 for a side other than 0 and 1 too, then 16.
+// The sheet of such a line in the edition of a number, at the front of `bytes`. Refusal 2 where that is neither 1 nor 2, 3 where n is over 64
+// or there are other than 5 + 5 × n numbers, 4 to 6, where 6 follows the edition, 8 to 11 in sheet order, 9 for a side other than 0 and 1 too,
+// then 16.
 #[no_mangle]
-pub extern "C" fn pokyandi_write(line: &[u32], bytes: &mut [u8]) -> u64
-    ensures answer { λ r. ⌜ r ≡ answerNumber (fill (numbersChecks (now (line .entry))) (numbersSheet (now (line .entry))) (now (bytes .entry)) .reply) ⌝ }
-    ensures memory { λ _. ⌜ now (bytes .exit) ≡ fill (numbersChecks (now (line .entry))) (numbersSheet (now (line .entry))) (now (bytes .entry)) .buffer ⌝ }
+pub extern "C" fn pokyandi_write(edition: u32, line: &[u32], bytes: &mut [u8]) -> u64
+    ensures answer { λ r. ⌜ r ≡ answerNumber (fill (toldChecks edition (now (line .entry))) (numbersSheet edition (now (line .entry))) (now (bytes .entry)) .reply) ⌝ }
+    ensures memory { λ _. ⌜ now (bytes .exit) ≡ fill (toldChecks edition (now (line .entry))) (numbersSheet edition (now (line .entry))) (now (bytes .entry)) .buffer ⌝ }
 {
-    answer_number(write_numbers(line, &mut *bytes))
+    answer_number(write_numbers(edition, line, &mut *bytes))
+}
+
+// The edition of a sheet, 1 or 2, as the count (document 02, N6). Refusals 1 to 11.
+#[no_mangle]
+pub extern "C" fn pokyandi_edition(sheet: &[u8]) -> u64
+    ensures answer { λ r. ⌜ r ≡ answerNumber (editionReply (now (sheet .entry))) ⌝ }
+{
+    answer_number(sheet_edition(sheet))
+}
+
+// The sheet of the same line in the other edition (document 02, N6), at the front of `bytes`. Refusals 1 to 11, 2 where another edition is asked
+// for than the other one, 24 where edition 1 is and the start is over 200,000,000 mm, then 16.
+#[no_mangle]
+pub extern "C" fn pokyandi_convert(sheet: &[u8], edition: u32, bytes: &mut [u8]) -> u64
+    ensures answer { λ r. ⌜ r ≡ answerNumber (conversion (now (sheet .entry)) edition (now (bytes .entry)) .reply) ⌝ }
+    ensures memory { λ _. ⌜ now (bytes .exit) ≡ conversion (now (sheet .entry)) edition (now (bytes .entry)) .buffer ⌝ }
+{
+    answer_number(conversion::convert(sheet, edition, &mut *bytes))
 }
 
 // The line of points that are given by coordinates (document 02, N2), as `pokyandi_read` gives it, at the front of `line`. `points` are east
@@ -147,5 +166,5 @@ pub extern "C" fn pokyandi_text(sheet: &[u8], text: &mut [u8]) -> u64
 pub extern "C" fn pokyandi_version() -> u64
     ensures answer { λ r. ⌜ r ≡ version ⌝ }
 {
-    6000
+    7000
 }

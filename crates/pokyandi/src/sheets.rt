@@ -1,10 +1,9 @@
 // The calls on a sheet: the reader, then the calculator, the search for a peg or the writer.
 ghost use mathlib.Core.Path.{_≡_};
 ghost use Rattle.refusals.specs.Filling.{fillReplyOf, fill};
-ghost use Rattle.packed_sheet.specs.Layout.{firstEdition};
 ghost use Rattle.packed_sheet.specs.Reading.{readChecks};
 ghost use Rattle.station_report.specs.Report.{sheetChecks};
-ghost use Rattle.pokyandi.specs.Calls.{sheetStations, sheetPegChecks, sheetPeg};
+ghost use Rattle.pokyandi.specs.Calls.{sheetStations, sheetPegChecks, sheetPeg, editionReply};
 use refusals::FillAnswer;
 use refusals::Verdict;
 
@@ -34,15 +33,27 @@ pub(crate) fn sheet_peg(sheet: &[u8], station: u64, peg: &mut [i64]) -> FillAnsw
     }
 }
 
-// A sheet read and written again at the front of `bytes`, or the reader's refusal.
+// A sheet read and written again in its edition at the front of `bytes`, or the reader's refusal.
 pub(crate) fn rewrite_sheet(sheet: &[u8], bytes: &mut [u8]) -> FillAnswer
-    ensures { λ a. ⌜ fillReplyOf a ≡ fill (readChecks firstEdition (now (sheet .entry))) (now (sheet .entry)) (now (bytes .entry)) .reply ⌝ }
-    ensures { λ _. ⌜ now (bytes .exit) ≡ fill (readChecks firstEdition (now (sheet .entry))) (now (sheet .entry)) (now (bytes .entry)) .buffer ⌝ }
+    ensures { λ a. ⌜ fillReplyOf a ≡ fill (readChecks (now (sheet .entry))) (now (sheet .entry)) (now (bytes .entry)) .reply ⌝ }
+    ensures { λ _. ⌜ now (bytes .exit) ≡ fill (readChecks (now (sheet .entry))) (now (sheet .entry)) (now (bytes .entry)) .buffer ⌝ }
 {
     let read = sheet::read(sheet);
     let verdict = read.verdict;
     match verdict {
-        Verdict::Pass => sheet::write(read.line, &mut *bytes),
+        Verdict::Pass => sheet::write(read.edition, read.line, &mut *bytes),
+        Verdict::Refused(refusal) => FillAnswer::Refused(refusal),
+    }
+}
+
+// The number of a sheet's edition as a count, or the reader's refusal.
+pub(crate) fn sheet_edition(sheet: &[u8]) -> FillAnswer
+    ensures { λ a. ⌜ fillReplyOf a ≡ editionReply (now (sheet .entry)) ⌝ }
+{
+    let read = sheet::read(sheet);
+    let verdict = read.verdict;
+    match verdict {
+        Verdict::Pass => FillAnswer::Count(read.edition as usize),
         Verdict::Refused(refusal) => FillAnswer::Refused(refusal),
     }
 }

@@ -1,8 +1,13 @@
 // The editions of the sheet, and their layout: the widths of its fields in bits. All but the start's are those of every edition.
 ghost use mathlib.Core.Path.{_≡_};
 ghost use Prim.Native.Nat.{_<_, _≤_};
-ghost use Rattle.packed_sheet.specs.Layout.{numbered, entryAt, bitCount, byteCount};
+ghost use Rattle.refusals.specs.Outcomes.{outcomeOf};
+ghost use Rattle.refusals.specs.Order.{outcome};
+ghost use Rattle.packed_sheet.specs.Layout.{numbered, editionCheck, entryAt, bitCount, byteCount};
 use packed_sheet::Edition;
+use refusals::Refusal;
+use refusals::Verdict;
+use refusals::must;
 
 // The head, before the start.
 pub(crate) const EDITION: usize = 4;
@@ -51,6 +56,14 @@ pub fn edition_numbered(number: u32) -> Edition
         width: 28,
         greatest: 200000000,
     }
+}
+
+// Refusal 2: an edition's number.
+pub fn check_edition(number: u32) -> Verdict
+    ensures { λ r. ⌜ outcomeOf r ≡ outcome (editionCheck number) ⌝ }
+{
+    let edition = edition_numbered(number);
+    must(number == edition.number, Refusal::Edition)
 }
 
 // The bit where distance `i` begins; the curve after it follows.

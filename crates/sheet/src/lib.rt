@@ -5,6 +5,7 @@ mod pen;
 mod reader;
 mod writer;
 
+pub use layout::check_edition;
 pub use layout::edition_numbered;
 pub use reader::ReadAnswer;
 pub use reader::read;

@@ -24,6 +24,7 @@ use crate::layout::START_AT;
 use crate::layout::TURN;
 use crate::layout::bit_count;
 use crate::layout::byte_count;
+use crate::layout::check_edition;
 use crate::layout::edition_numbered;
 use crate::pen::Pen;
 use crate::pen::join;
@@ -37,6 +38,7 @@ use packed_sheet::Edition;
 use refusals::FillAnswer;
 use refusals::Refusal;
 use refusals::Verdict;
+use refusals::first;
 
 // The head's fields as one.
 fn head_bits(edition: Edition, count: u32, speed: u32, crossfall: u32, start: u32) -> u64
@@ -110,15 +112,14 @@ fn write_sheet(edition: Edition, line: Line, bytes: &mut [u8])
     put_end(edition, line, &mut *bytes, pen, distance);
 }
 
-// Refusal 2 of a number that is not its edition's, then the first of the line's.
+// Refusal 2, then the first of the line's fields in the edition of the number.
 fn check_told(number: u32, edition: Edition, line: Line) -> Verdict
     requires { ⌜ edition ≡ numbered number ⌝ }
     ensures { λ r. ⌜ outcomeOf r ≡ outcome (writeChecks number line) ⌝ }
 {
-    if number != edition.number {
-        return Verdict::Refused(Refusal::Edition);
-    }
-    check_fields(edition.greatest, line)
+    let known = check_edition(number);
+    let fields = check_fields(edition.greatest, line);
+    first(known, fields)
 }
 
 // The sheet of a line in the edition of a number, at the front of `bytes`. Answers its length in bytes, or the first refusal: 2 where the

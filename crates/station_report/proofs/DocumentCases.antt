@@ -12,8 +12,8 @@ use Rattle.refusals.specs.Order.{outcome}
 use Rattle.line.specs.Checks.{startCheck, headChecks, distanceCheck, curveChecks, bodyChecks}
 use Rattle.line.specs.Entries.{entries}
 use Rattle.bits.specs.Bits.{valueOf, bitsAt, valuesAt}
-use Rattle.packed_sheet.specs.Layout.{firstEdition}
-use Rattle.packed_sheet.specs.Reading.{headOf, distanceOf, curveOf, lineOf, sizeChecks, frameChecks, readChecks, readLine}
+use Rattle.packed_sheet.specs.Layout.{numbered}
+use Rattle.packed_sheet.specs.Reading.{headOf, distanceOf, curveOf, lineOf, sizeChecks, frameChecks, readChecksAs, readLineAs, editionOf, readChecks, readLine}
 use Rattle.packed_sheet.proofs.Examples.{sheet9}
 use Rattle.packed_sheet.proofs.Examples as sheets
 use Rattle.elements.specs.WorkingRule.{arcOf}
@@ -41,8 +41,8 @@ sheet1 =
 pub record DocumentCases : Type 0 where
   pub case-1-elements : elementReply 177764 350000 40000
       ≡ answered (record { X = pos 39986941; Y = pos 761727; k = pos 19997824; p = pos 190454; D = pos 261638467; TT = pos 180989280 })
-  pub case-1-read : outcome (readChecks firstEdition sheet1) ≡ passed
-  pub case-1-line : readLine firstEdition sheet1 ≡ caseLine 500000 350000 40000
+  pub case-1-read : outcome (readChecks sheet1) ≡ passed
+  pub case-1-line : readLine sheet1 ≡ caseLine 500000 350000 40000
   pub case-1-accepted : stationsIn (caseLine 500000 350000 40000) row .reply ≡ filled 5
   pub case-1-stations : stationsIn (caseLine 500000 350000 40000) row .buffer
       ≡ 319010720 ∷ 359010720 ∷ 620649187 ∷ 660649187 ∷ 879659907 ∷ 6 ∷ 7 ∷ []
@@ -63,15 +63,15 @@ pub record DocumentCases : Type 0 where
       ≡ answered (record { X = pos 0; Y = pos 0; k = pos 0; p = pos 0; D = pos 1697; TT = pos 848 })
   pub case-8-short : arcOf 1 200000 0 ≡ pos 970
   pub case-8-refused : elementReply 1 200000 0 ≡ declined 14 0
-  pub case-9-read : outcome (readChecks firstEdition sheet9) ≡ passed
-  pub case-9-line : readLine firstEdition sheet9 ≡ noCurve
+  pub case-9-read : outcome (readChecks sheet9) ≡ passed
+  pub case-9-line : readLine sheet9 ≡ noCurve
   pub case-9-accepted : stationsIn noCurve (7 ∷ []) .reply ≡ filled 1
   pub case-9-end : stationsIn noCurve (7 ∷ []) .buffer ≡ 500000000 ∷ []
   pub case-9-printed : sheetText sheet9 ≡ ascii "POINT CURVE STATION\nEND 0 500.000000\n"
 
 -- The reader's part of case 1.
-read1 : (outcome (readChecks firstEdition sheet1) ≡ passed) × (readLine firstEdition sheet1 ≡ caseLine 500000 350000 40000)
-unfolding startCheck headChecks distanceCheck curveChecks bodyChecks entries valueOf bitsAt valuesAt headOf distanceOf curveOf lineOf sizeChecks frameChecks readChecks readLine
+read1 : (outcome (readChecks sheet1) ≡ passed) × (readLine sheet1 ≡ caseLine 500000 350000 40000)
+unfolding startCheck headChecks distanceCheck curveChecks bodyChecks entries valueOf bitsAt valuesAt headOf distanceOf curveOf lineOf sizeChecks frameChecks readChecksAs readLineAs editionOf numbered
 read1 = (refl, refl)
 
 pub document-cases : DocumentCases

@@ -7,7 +7,8 @@ use Rattle.refusals.specs.Order.{outcome}
 use Rattle.line.specs.Checks.{startCheck, headChecks, distanceCheck, curveChecks, bodyChecks, fieldChecks}
 use Rattle.line.specs.Entries.{entries}
 use Rattle.bits.specs.Bits.{valueOf, bitsAt, valuesAt}
-use Rattle.packed_sheet.specs.Reading.{headOf, distanceOf, curveOf, lineOf, sizeChecks, frameChecks, readChecks, readLine}
+use Rattle.packed_sheet.specs.Layout.{numbered}
+use Rattle.packed_sheet.specs.Reading.{headOf, distanceOf, curveOf, lineOf, sizeChecks, frameChecks, readChecksAs, readLineAs, editionOf}
 use Rattle.line.specs.Speeds.{underSpeed}
 use Rattle.stationing.specs.RoadTables.{frictionAt, leastSpiralAt, radiusServes, spiralServes}
 use Rattle.stationing.specs.Answer.{designChecks, designChecksAt, alignmentChecks}
@@ -26,5 +27,5 @@ pub record Examples : Type 0 where
   pub case-4-printed : sheetText sheet4 ≡ ascii "REFUSED 13 1\n"
 
 pub examples : Examples
-unfolding firstOf startCheck headChecks distanceCheck curveChecks bodyChecks fieldChecks entries valueOf bitsAt valuesAt headOf distanceOf curveOf lineOf sizeChecks frameChecks readChecks readLine underSpeed frictionAt leastSpiralAt radiusServes spiralServes designChecks designChecksAt alignmentChecks ascii digitsWithin decimal words refusalLine sheetChecks sheetText
+unfolding firstOf startCheck headChecks distanceCheck curveChecks bodyChecks fieldChecks entries valueOf bitsAt valuesAt headOf distanceOf curveOf lineOf sizeChecks frameChecks readChecksAs readLineAs editionOf numbered underSpeed frictionAt leastSpiralAt radiusServes spiralServes designChecks designChecksAt alignmentChecks ascii digitsWithin decimal words refusalLine sheetChecks sheetText
 examples = record { reader-first = refl; case-4 = refl; case-4-printed = refl }

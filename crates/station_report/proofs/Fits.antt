@@ -13,8 +13,7 @@ use Rattle.refusals.proofs.Numbers.{Refuses, refusal-numbers, wider}
 use Rattle.refusals.proofs.Joining.{passed-right}
 use Rattle.line.specs.declared.Line.{Line}
 use Rattle.line.specs.Entries.{lineAfter}
-use Rattle.packed_sheet.specs.Layout.{firstEdition}
-use Rattle.packed_sheet.specs.Reading.{lineOf, readChecks, readLine}
+use Rattle.packed_sheet.specs.Reading.{lineOf, readLineAs, editionOf, readChecks, readLine}
 use Rattle.packed_sheet.proofs.Frames.{count-below}
 use Rattle.round_trips.proofs.Numbers.{read-numbers}
 use Rattle.stationing.specs.Stations.{stationRow}
@@ -41,22 +40,22 @@ count-short line (refused n p) h = omega arith
 
 -- The refusals of reader and calculator are 1 to 15, and no place has more than seven bits.
 pub sheet-numbers : (sheet : List ℕ) → Refuses 1 15 127 (sheetChecks sheet)
-unfolding sheetChecks readLine lineOf
+unfolding sheetChecks readLineAs lineOf
 sheet-numbers sheet =
-    let E = firstEdition in
-    let read = readChecks E sheet in
-    let line = readLine E sheet in
+    let E = editionOf sheet in
+    let read = readChecks sheet in
+    let line = readLine sheet in
     let seven-bits = count-below E sheet refl in (
-      wider read (read-numbers E sheet) (omega arith) (omega arith) (omega arith),
+      wider read (read-numbers sheet) (omega arith) (omega arith) (omega arith),
       λ _. wider (alignmentChecks line) (alignment-numbers line) (omega arith) (omega arith) (count-short (lineOf E sheet) (outcome read) seven-bits),
     )
 
 pub fits : (sheet : List ℕ) → length (sheetText sheet) ≤ 5417
 unfolding sheetText sheetChecks
 fits sheet =
-    let line = readLine firstEdition sheet in
+    let line = readLine sheet in
     text-short line (sheetChecks sheet) (outcome (sheetChecks sheet)) (sheet-numbers sheet) refl
-    (passed-right (outcome (readChecks firstEdition sheet)) (outcome (alignmentChecks line)))
+    (passed-right (outcome (readChecks sheet)) (outcome (alignmentChecks line)))
 
 -- So many lent bytes are never refused.
 pub never-refused : (sheet lent : List ℕ) {n p : ℕ} {A : Type 0} → fill unchecked (sheetText sheet) lent .reply ≡ unfilled n p → 5417 ≤ length lent → A

@@ -10,7 +10,6 @@ use Rattle.refusals.specs.Outcomes.{Outcome, passed, refused, need, _▹_}
 use Rattle.refusals.specs.Filling.{filled, unfilled, withRoom}
 use Rattle.refusals.specs.Order.{outcome}
 use Rattle.line.specs.declared.Line.{Line}
-use Rattle.packed_sheet.specs.Layout.{firstEdition}
 use Rattle.packed_sheet.specs.Reading.{readChecks, readLine}
 use Rattle.stationing.specs.Stations.{stationRow}
 use Rattle.stationing.specs.Answer.{alignmentChecks, stationsIn}
@@ -48,10 +47,10 @@ module _ (line : Line) (row : List ℕ) {after : List ℕ} (stored : after ≡ s
 -- ---- the reader's answer
 
 module _ (sheet : List ℕ) where
-  pub read-text : outcome (readChecks firstEdition sheet) ≡ passed → sheetText sheet ≡ lineText (readLine firstEdition sheet)
+  pub read-text : outcome (readChecks sheet) ≡ passed → sheetText sheet ≡ lineText (readLine sheet)
   unfolding sheetText sheetChecks lineText
   read-text e = rw e refl
 
-  pub unread-text : {n p : ℕ} → outcome (readChecks firstEdition sheet) ≡ refused n p → sheetText sheet ≡ refusalLine n p
+  pub unread-text : {n p : ℕ} → outcome (readChecks sheet) ≡ refused n p → sheetText sheet ≡ refusalLine n p
   unfolding sheetText sheetChecks
   unread-text e = rw e refl

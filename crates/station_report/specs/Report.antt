@@ -5,7 +5,6 @@ use lib.ListN.{length, drop, replicate}
 use Rattle.refusals.specs.Outcomes.{Outcome, passed, refused}
 use Rattle.refusals.specs.Order.{Checks, _⨾_, outcome}
 use Rattle.line.specs.declared.Line.{Line}
-use Rattle.packed_sheet.specs.Layout.{firstEdition}
 use Rattle.packed_sheet.specs.Reading.{readChecks, readLine}
 use Rattle.stationing.specs.Stations.{stationRow}
 use Rattle.stationing.specs.Answer.{alignmentChecks}
@@ -22,11 +21,11 @@ lineText line = answerText (outcome (alignmentChecks line)) (stationRow line)
 
 -- The checks of reader and calculator, in this order.
 unfoldable pub sheetChecks : List ℕ → Checks
-sheetChecks sheet = readChecks firstEdition sheet ⨾ alignmentChecks (readLine firstEdition sheet)
+sheetChecks sheet = readChecks sheet ⨾ alignmentChecks (readLine sheet)
 
 -- The text of a sheet.
 unfoldable pub sheetText : List ℕ → List ℕ
-sheetText sheet = answerText (outcome (sheetChecks sheet)) (stationRow (readLine firstEdition sheet))
+sheetText sheet = answerText (outcome (sheetChecks sheet)) (stationRow (readLine sheet))
 
 -- The text in 5,417 bytes, zeros behind it; no sheet needs more (`proofs/Fits.antt`).
 unfoldable pub wholeText : List ℕ → List ℕ

@@ -33,7 +33,7 @@ returns c =
     let passes = sym (read .0) ∙ ap outcomeOf (c .before .before .before .before .enum-told .given .1) in
     let start = c .before .before .before .before .before .before .before .before .before in
     let sheet = start .args .sheet .now in
-    refill unchecked unchecked _ (sheetText sheet) (start .args .text .now) refl (ap lineText (read .1 .0) ∙ sym (read-text sheet passes)) (c .before .before .report-line .ensures)
+    refill unchecked unchecked _ (sheetText sheet) (start .args .text .now) refl (ap lineText (read .1 .1 .0) ∙ sym (read-text sheet passes)) (c .before .before .report-line .ensures)
 
 same-length-2 : tie.Need-same-length-2
 same-length-2 c = search needs

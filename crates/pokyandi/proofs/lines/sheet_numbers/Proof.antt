@@ -2,7 +2,7 @@
 use mathlib.Core.Path.{sym, _∙_, ap}
 use Rattle.refusals.specs.Outcomes.{outcomeOf}
 use Rattle.refusals.proofs.FillWays.{refused-fill}
-use Rattle.packed_sheet.specs.Layout.{firstEdition}
+use Rattle.packed_sheet.specs.Layout.{numbered}
 use Rattle.packed_sheet.specs.Writing.{sheetOf}
 use Rattle.pokyandi.proofs.ReadAndWrite.{numbers-accepted}
 use Rattle.pokyandi.proofs.Replies.{numbers-reply}
@@ -29,14 +29,14 @@ returns : tie.Need-returns
 returns c =
     let read = c .before .before .before .before .before .before .read .ensures in
     let passes = sym (read .0) ∙ ap outcomeOf (c .before .before .before .before .enum-told .given .1) in
-    let told = numbers-reply _ passes (read .1 .0) _ (c .before .before .write .ensures) in
-    (told .0, (told .1, λ e. numbers-accepted _ e .1 ∙ ap (sheetOf firstEdition) (sym (read .1 .0)) ∙ read .1 .1 (read .0 ∙ e)))
+    let told = numbers-reply _ passes (read .1 .1 .0) _ (c .before .before .write .ensures) in
+    (told .0, (told .1, λ e. numbers-accepted _ e .1 ∙ (λ j. sheetOf (numbered (sym (read .1 .0) j)) (sym (read .1 .1 .0) j)) ∙ read .1 .1 .1 (read .0 ∙ e)))
 
 returns-2 : tie.Need-returns-2
 returns-2 c =
     let read = c .before .before .before .read .ensures in
     let told = refused-fill _ _ _ (sym (read .0) ∙ ap outcomeOf (c .before .verdict .given .1)) in
-    (told .0, (told .1, λ e. numbers-accepted _ e .1 ∙ ap (sheetOf firstEdition) (sym (read .1 .0)) ∙ read .1 .1 (read .0 ∙ e)))
+    (told .0, (told .1, λ e. numbers-accepted _ e .1 ∙ (λ j. sheetOf (numbered (sym (read .1 .0) j)) (sym (read .1 .1 .0) j)) ∙ read .1 .1 .1 (read .0 ∙ e)))
 
 pub sheet-numbers-spec : {M : Type 1} → statement M
 sheet-numbers-spec =

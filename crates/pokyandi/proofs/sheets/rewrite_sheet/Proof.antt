@@ -26,7 +26,7 @@ returns : tie.Need-returns
 returns c =
     let read = c .before .before .before .before .before .before .read .ensures in
     let told = ap outcomeOf (c .before .before .before .before .enum-told .given .1) in
-    rewrite-reply _ (sym (read .0) ∙ told) (read .1 .0) (read .1 .1 told) _ (c .before .before .write .ensures)
+    rewrite-reply _ (sym (read .0) ∙ told) (read .1 .1 .0) (read .1 .0) (read .1 .1 .1 told) _ (c .before .before .write .ensures)
 
 returns-2 : tie.Need-returns-2
 returns-2 c =

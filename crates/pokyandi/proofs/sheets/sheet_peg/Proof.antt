@@ -25,7 +25,7 @@ returns : tie.Need-returns
 returns c =
     let read = c .before .before .before .before .before .read .ensures in
     let passes = sym (read .0) ∙ ap outcomeOf (c .before .before .before .enum-told .given .1) in
-    peg-reply _ passes (read .1 .0) _ _ (c .before .peg-numbers .ensures)
+    peg-reply _ passes (read .1 .1 .0) _ _ (c .before .peg-numbers .ensures)
 
 returns-2 : tie.Need-returns-2
 returns-2 c =

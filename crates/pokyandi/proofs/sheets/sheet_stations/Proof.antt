@@ -25,7 +25,7 @@ returns : tie.Need-returns
 returns c =
     let read = c .before .before .before .before .before .before .read .ensures in
     let passes = sym (read .0) ∙ ap outcomeOf (c .before .before .before .before .enum-told .given .1) in
-    stations-reply _ passes (read .1 .0) _ (c .before .before .stations .ensures)
+    stations-reply _ passes (read .1 .1 .0) _ (c .before .before .stations .ensures)
 
 returns-2 : tie.Need-returns-2
 returns-2 c =
