@@ -6,6 +6,7 @@ use mathlib.Core.List.{List}
 use Prim.Native.Nat.{ℕ, _≤_}
 use native.Mathlib.Omega.{arith}
 use lib.Dec.{eqb}
+use lib.ListN.{length}
 use borrow.Author.Tests.{eqb-true, eq-eqb}
 use Rattle.refusals.specs.declared.Verdict.{Verdict}
 use Rattle.refusals.specs.Outcomes.{Outcome, passed, outcomeOf, need, _▹_}
@@ -17,9 +18,11 @@ use Rattle.line.specs.Ranges.{FieldsInRange}
 use Rattle.bits.specs.Bits.{bitsAt, valuesAt}
 use Rattle.packed_sheet.specs.declared.Edition.{Edition}
 use Rattle.packed_sheet.specs.declared.Head.{Head}
-use Rattle.packed_sheet.specs.Layout.{firstEdition, secondEdition, numbered, editionCheck, Holds}
-use Rattle.packed_sheet.specs.Reading.{headOf, readChecks, editionOf, numberAfter, readEdition}
+use Rattle.packed_sheet.specs.Layout.{firstEdition, secondEdition, numbered, editionCheck, Holds, editionWidth, byteCount}
+use Rattle.packed_sheet.specs.Reading.{headOf, countOf, readChecks, editionOf, numberAfter, readEdition}
 use Rattle.packed_sheet.specs.Writing.{sheetOf, writeChecks}
+use Rattle.packed_sheet.proofs.Frames.{framed}
+use Rattle.packed_sheet.proofs.WaysOut.{frame-passes}
 use Rattle.packed_sheet.proofs.ReadAgain.{head-again}
 
 -- What holds of both editions holds of the edition of any number.
@@ -37,6 +40,16 @@ numbered-holds =
     of-both Holds
     (record { number = omega arith; start = omega arith; wide = omega arith; narrow = omega arith })
     (record { number = omega arith; start = omega arith; wide = omega arith; narrow = omega arith })
+
+-- "706 are the longest of both": a sheet of 64 curves or fewer has no more bytes, and none that reads has.
+pub longest : (number n : ℕ) → n ≤ 64 → byteCount (numbered number) n ≤ 706
+longest number n few = omega (arith, numbered-holds number .narrow)
+
+pub no-longer : (sheet : List ℕ) → outcome (readChecks sheet) ≡ passed → length sheet ≤ 706
+unfolding editionOf
+no-longer sheet e =
+    let frame = framed (editionOf sheet) sheet (frame-passes (editionOf sheet) sheet e) in
+    omega (arith, frame .size, longest (bitsAt sheet 0 editionWidth) (countOf (editionOf sheet) sheet) (frame .few))
 
 -- Their starts are starts that lines may have.
 pub start-of-line : (number : ℕ) → numbered number .greatest ≤ greatestStart

@@ -36,13 +36,8 @@ fn store_bytes(edition: Edition, line: Line, bytes: &mut [u8], at: usize, word: 
     let mut left = held;
     while 8 <= left {
         left -= 8;
-        store(
-            edition,
-            line,
-            &mut *bytes,
-            next,
-            ((word >> left) % 256) as u8,
-        );
+        let byte = ((word >> left) % 256) as u8;
+        store(edition, line, &mut *bytes, next, byte);
         next += 1;
     }
 }

@@ -33,11 +33,11 @@ loop-holds c =
     let pre = c .before .pre in
     (refl, pre .1 .0, pre .1 .1, refl, pre .1 .2, pre .0, none)
 
-shr-store : tie.Need-shr-store Inv-loop μ-loop
-shr-store c = omega arith
+shr-byte : tie.Need-shr-byte Inv-loop μ-loop
+shr-byte c = omega arith
 
-cast-store : tie.Need-cast-store Inv-loop μ-loop
-cast-store c = search needs
+cast-byte : tie.Need-cast-byte Inv-loop μ-loop
+cast-byte c = search needs
 
 store-requires : tie.Need-store-requires Inv-loop μ-loop
 store-requires c κs =
@@ -86,8 +86,8 @@ store-bytes-spec =
     Inv-loop
     μ-loop
     loop-holds
-    shr-store
-    cast-store
+    shr-byte
+    cast-byte
     store-requires
     add-next
     loop-less
