@@ -34,9 +34,12 @@ caseLine distance R L =
     }
 
 -- Case 9: no curve, distance 500,000.
+abbrev from : ℕ → Line
+from start =
+    record { speed = 70; crossfall = 8; start = start; count = 0; distances = 500000 ∷ replicate 64 0; curves = replicate 64 (curve 0 0 0) }
+
 abbrev pub noCurve : Line
-noCurve =
-    record { speed = 70; crossfall = 8; start = 0; count = 0; distances = 500000 ∷ replicate 64 0; curves = replicate 64 (curve 0 0 0) }
+noCurve = from 0
 
 -- Case 1's curve with other R and L.
 abbrev curve1 : (R L : ℕ) → Curve
@@ -78,6 +81,9 @@ pub record Examples : Type 0 where
   pub case-5-refused : stationsIn (caseLine 500000 167750 0) (replicate 5 0) .reply ≡ unfilled 12 1
   pub case-9 : stationsIn noCurve (7 ∷ []) .reply ≡ filled 1
   pub case-9-row : stationsIn noCurve (7 ∷ []) .buffer ≡ 500000000 ∷ []
+  -- ---- the same from the greatest start of document 02, N6, and from one more
+  pub greatest-start : stationsIn (from 4000000000) (7 ∷ []) .buffer ≡ 4000500000000 ∷ []
+  pub start-beyond : stationsIn (from 4000000001) [] .reply ≡ unfilled 6 0
   -- ---- the road tables, each order, each place, each limit
   pub tables : (limits 40 48456 30000
       && limits 50 82021 30000
@@ -116,6 +122,8 @@ examples =
       case-5-refused = refl;
       case-9 = refl;
       case-9-row = refl;
+      greatest-start = refl;
+      start-beyond = refl;
       tables = refl;
       spiral-by-radius = refl;
       radius-before-spiral = refl;
