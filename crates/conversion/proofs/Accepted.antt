@@ -1,10 +1,11 @@
--- A sheet that the converter takes: it reads, the other edition is asked for, and the writer takes its line in that. Assumes nothing.
-use mathlib.Core.Path.{_≡_, sym, _∙_, ap}
+-- A sheet that the converter takes: it reads, the other edition is asked for, and that holds its start; and the writer takes its line in that.
+-- Assumes nothing.
+use mathlib.Core.Path.{_≡_, _∙_, ap}
 use mathlib.Core.Bool.{Bool, true, false, cond}
 use mathlib.Core.List.{List}
 use Prim.Native.Nat.{ℕ, _≤_}
 use lib.Dec.{leb, eqb}
-use borrow.Author.Tests.{eqb-true, leb-true}
+use borrow.Author.Tests.{eqb-true, leb-true, eq-eqb, le-leb}
 use Rattle.refusals.specs.Outcomes.{passed, need}
 use Rattle.refusals.specs.Order.{outcome}
 use Rattle.refusals.proofs.Joining.{passed-left, passed-right, need-holds}
@@ -13,7 +14,7 @@ use Rattle.packed_sheet.specs.Layout.{numbered, editionCheck}
 use Rattle.packed_sheet.specs.Reading.{readChecks, readLine, editionOf, readEdition}
 use Rattle.packed_sheet.specs.Writing.{writeChecks}
 use Rattle.packed_sheet.proofs.WaysOut.{accepted-line}
-use Rattle.packed_sheet.proofs.Editions.{of-both, one-and-two, both-pass}
+use Rattle.packed_sheet.proofs.Editions.{both-pass}
 use Rattle.conversion.specs.Conversion.{otherNumber, askedChecks, convertChecks}
 
 -- The other edition has a number.
@@ -25,6 +26,14 @@ other-known number = go (eqb number 2)
     go true = λ j. passed
     go false = λ j. passed
 
+-- Such a sheet is taken.
+pub accepts : (sheet : List ℕ) (asked : ℕ) → outcome (readChecks sheet) ≡ passed → asked ≡ otherNumber (readEdition sheet)
+    → readLine sheet .start ≤ numbered asked .greatest → outcome (convertChecks sheet asked) ≡ passed
+unfolding convertChecks askedChecks
+accepts sheet asked reads other near =
+    rw (reads, eq-eqb asked (otherNumber (readEdition sheet)) other, le-leb (readLine sheet .start) (numbered asked .greatest) near)
+
+-- And of each that is taken, this holds.
 module _ (sheet : List ℕ) (asked : ℕ) (accepted : outcome (convertChecks sheet asked) ≡ passed) where
   pub reads : outcome (readChecks sheet) ≡ passed
   unfolding convertChecks

@@ -1,24 +1,19 @@
 -- A converted sheet is converted back, to the same bytes. Assumes nothing.
-use mathlib.Core.Path.{_≡_, sym, _∙_, ap}
-use mathlib.Core.Bool.{Bool}
+use mathlib.Core.Path.{_≡_, sym, _∙_, ap, subst}
 use mathlib.Core.List.{List}
 use Prim.Native.Nat.{ℕ, _≤_}
-use lib.Dec.{leb, eqb}
-use borrow.Author.Tests.{eq-eqb, le-leb}
-use Rattle.refusals.specs.Outcomes.{passed, need, _▹_}
+use Rattle.refusals.specs.Outcomes.{passed}
 use Rattle.refusals.specs.Order.{outcome}
 use Rattle.line.specs.declared.Line.{Line}
-use Rattle.line.proofs.InRange.{line-in-range}
 use Rattle.bits.specs.Bits.{Bytes}
 use Rattle.packed_sheet.specs.declared.Edition.{Edition}
 use Rattle.packed_sheet.specs.Layout.{numbered}
-use Rattle.packed_sheet.specs.Reading.{readChecks, readLine, editionOf, readEdition}
+use Rattle.packed_sheet.specs.Reading.{readLine, editionOf, readEdition}
 use Rattle.packed_sheet.specs.Writing.{sheetOf}
 use Rattle.packed_sheet.proofs.Editions.{of-both, reported}
-use Rattle.packed_sheet.proofs.RoundTrip.{read-passes, read-written}
-use Rattle.packed_sheet.proofs.Editions.{told-fields}
-use Rattle.conversion.specs.Conversion.{otherNumber, askedChecks, convertChecks, converted}
-use Rattle.conversion.proofs.Accepted.{reads, is-other}
+use Rattle.packed_sheet.proofs.RoundTrip.{start-held, read-written}
+use Rattle.conversion.specs.Conversion.{otherNumber, convertChecks, converted}
+use Rattle.conversion.proofs.Accepted.{accepts, reads, is-other}
 use Rattle.conversion.proofs.SameLine.{same-line}
 
 -- The other of the other is the first.
@@ -37,14 +32,11 @@ module _ (sheet : List ℕ) (asked : ℕ) (accepted : outcome (convertChecks she
       let read = reported sheet (reads sheet asked accepted) in
       read ∙ sym (other-other _) ∙ ap (λ (n : ℕ). otherNumber (otherNumber n)) (sym read) ∙ ap otherNumber (sym (is-other sheet asked accepted))
 
-  near-back : readLine sheet .start ≤ numbered own .greatest
-  near-back = line-in-range (readLine sheet) (told-fields own (readLine sheet) (read-passes sheet (reads sheet asked accepted))) .start-most
-
   pub converted-back : outcome (convertChecks (converted sheet asked) own) ≡ passed
-  unfolding convertChecks askedChecks
   converted-back =
       let same = same-line sheet asked accepted in
-      rw (same .reads, same .edition, same .line, eq-eqb own (otherNumber asked) back, le-leb (readLine sheet .start) (numbered own .greatest) near-back)
+      accepts (converted sheet asked) own (same .reads) (back ∙ ap otherNumber (sym (same .edition)))
+      (subst (λ (l : Line). l .start ≤ numbered own .greatest) (sym (same .line)) (start-held sheet (reads sheet asked accepted)))
 
   pub same-bytes : Bytes sheet → converted (converted sheet asked) own ≡ sheet
   unfolding converted

@@ -1,7 +1,7 @@
 -- Reader and writer undo each other, for every edition. Assumes nothing.
 use mathlib.Core.Path.{_≡_, sym, _∙_, ap}
 use mathlib.Core.List.{List}
-use Prim.Native.Nat.{ℕ}
+use Prim.Native.Nat.{ℕ, _≤_}
 use Rattle.refusals.specs.Outcomes.{Outcome, passed}
 use Rattle.refusals.specs.Order.{outcome}
 use Rattle.line.specs.declared.Line.{Line}
@@ -57,6 +57,10 @@ read-passes s e =
     let known = ap (λ (n : ℕ). outcome (editionCheck n)) (reported s e) ∙ own-passes _ in
     let fields = ap (λ (E : Edition). outcome (fieldChecks (E .greatest) (readLine s))) (reported-edition s e) ∙ accepted-line (editionOf s) s e in
     both-pass (readEdition s) (readLine s) known fields
+
+-- Its start is one that its edition holds.
+pub start-held : (s : List ℕ) → outcome (readChecks s) ≡ passed → readLine s .start ≤ numbered (readEdition s) .greatest
+start-held s e = line-in-range (readLine s) (told-fields (readEdition s) (readLine s) (read-passes s e)) .start-most
 
 pub read-written : (s : List ℕ) → Bytes s → outcome (readChecks s) ≡ passed → sheetOf (numbered (readEdition s)) (readLine s) ≡ s
 read-written s bytes e = ap (λ (E : Edition). sheetOf E (readLine s)) (reported-edition s e) ∙ read-then-write (editionOf s) s bytes e

@@ -4,7 +4,7 @@ use mathlib.Core.List.{List, [], _∷_}
 use Prim.Native.Nat.{ℕ, zero, suc, _+_, _≤_, _<_}
 use native.Mathlib.Omega.{arith}
 use Rattle.line.specs.Checks.{distanceAt, blankCurve, curveAt}
-use Rattle.line.specs.Entries.{entries, entered, cleared}
+use Rattle.line.specs.Entries.{entered, cleared}
 use Rattle.line.proofs.Entries.{entries-get, entries-same}
 use Rattle.line.proofs.Sides.{bit-of-side}
 use Rattle.bits.specs.Bits.{Bytes, valueOf, bytesOf, bitsAt, valuesAt, packed}

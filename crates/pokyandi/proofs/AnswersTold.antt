@@ -19,7 +19,7 @@ use Rattle.line_numbers.specs.Numbers.{lineOf, countCheck, numbersChecks}
 use Rattle.line_numbers.proofs.Storing.{line-length}
 use Rattle.line_numbers.proofs.LineAndNumbers.{few-counted}
 use Rattle.packed_sheet.specs.Layout.{numbered, editionCheck}
-use Rattle.packed_sheet.specs.Reading.{editionOf, numberAfter, readChecks, readLine, readEdition}
+use Rattle.packed_sheet.specs.Reading.{editionOf, readChecks, readLine, readEdition}
 use Rattle.packed_sheet.proofs.Frames.{framed, count-below}
 use Rattle.round_trips.proofs.Numbers.{read-numbers}
 use Rattle.packed_sheet.proofs.Editions.{numbered-holds, edition-holds, reported}

@@ -1,6 +1,6 @@
 -- A line that `pokyandi_from_points` answers is accepted by `pokyandi_write` in each edition that holds its start, as edition 2 does, and its
 -- sheet by `pokyandi_stations`, which gives the stations of that line: each call refuses only for a small buffer. Assumes nothing.
-use mathlib.Core.Path.{_≡_, sym, _∙_, ap}
+use mathlib.Core.Path.{_≡_, _∙_, ap}
 use mathlib.Core.List.{List}
 use Prim.Native.Nat.{ℕ, _≤_}
 use lib.IntN.{ℤ}

@@ -15,8 +15,8 @@ use Rattle.line.proofs.InRange.{line-in-range}
 use Rattle.line_numbers.specs.Numbers.{lineNumbers, lineOf, countCheck, numbersChecks}
 use Rattle.line_numbers.proofs.LineAndNumbers.{line-again, outcome-again, numbers-again}
 use Rattle.packed_sheet.specs.Layout.{numbered, editionCheck}
-use Rattle.packed_sheet.specs.Reading.{editionOf, readChecks, readLine, readEdition}
-use Rattle.packed_sheet.specs.Writing.{sheetOf, writeChecks}
+use Rattle.packed_sheet.specs.Reading.{readChecks, readLine, readEdition}
+use Rattle.packed_sheet.specs.Writing.{sheetOf}
 use Rattle.packed_sheet.proofs.Editions.{told-edition, told-fields, both-pass}
 use Rattle.packed_sheet.proofs.RoundTrip as sheets
 use Rattle.round_trips.proofs.Unused.{same-sheet}

@@ -1,6 +1,6 @@
 -- `store_rest` meets its contract: of whole bytes fewer than eight, nothing is left after four, two and one. Assumes nothing.
 use mathlib.Core.Path.{_≡_, refl}
-use Prim.Native.Nat.{ℕ, _+_, _/_}
+use Prim.Native.Nat.{_+_, _/_}
 use native.Mathlib.Omega.{arith}
 use borrow.Author.Needs.{needs}
 use Rattle.packed_sheet.proofs.SoFar.{stores-then}

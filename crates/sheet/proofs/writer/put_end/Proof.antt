@@ -1,10 +1,9 @@
 -- `put_end` meets its contract: the last distance with the fill behind it ends at the sheet's last byte. Assumes nothing.
-use mathlib.Core.Path.{_≡_, sym, _∙_, ap}
+use mathlib.Core.Path.{_≡_, sym, _∙_}
 use Prim.Native.Nat.{ℕ, _+_, _-_, _*_, _/_, _^_, _<_}
 use native.Mathlib.Omega.{arith}
 use borrow.Author.Needs.{needs}
 use lib.Pow.{pow-pos}
-use Rattle.line.specs.Checks.{distanceAt}
 use Rattle.line.specs.Ranges.{FieldsInRange}
 use Rattle.line.proofs.InRange.{line-in-range}
 use Rattle.bits.specs.Bits.{bitsAt}
