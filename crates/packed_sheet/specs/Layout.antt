@@ -24,7 +24,8 @@ numbered number = cond (eqb number 2) secondEdition firstEdition
 unfoldable pub editionCheck : ℕ → Checks
 editionCheck number = check (eqb number (numbered number .number)) 2 0
 
--- An edition whose number and greatest start have room in the head's bits, and the head in seven bytes.
+-- An edition whose number and greatest start have room in the head's bits. A start of 26 to 32 bits leaves the head room in seven bytes, and
+-- gives every sheet as many.
 pub record Holds (E : Edition) : Type 0 where
   pub number : E .number < 2 ^ 4
   pub start : E .greatest < 2 ^ E .width

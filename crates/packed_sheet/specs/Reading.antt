@@ -85,7 +85,7 @@ readLineAs E sheet = lineAfter (outcome (readChecksAs E sheet)) (lineOf E sheet)
 unfoldable pub editionOf : List ℕ → Edition
 editionOf sheet = numbered (bitsAt sheet 0 editionWidth)
 
--- The reader "takes either edition": its checks, and the line that it answers.
+-- The reader takes a sheet as one of the edition that it names: its checks, and the line that it answers.
 abbrev pub readChecks : List ℕ → Checks
 readChecks sheet = readChecksAs (editionOf sheet) sheet
 
