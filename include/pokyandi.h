@@ -10,7 +10,7 @@
  * refusal every entry is what it was. Any bytes and numbers are taken, and every call returns.
  *
  * An answer holds two numbers of 32 bits:
- *   upper 0            done, the lower is the count of entries
+ *   upper 0            done, the lower is the count of entries, of pokyandi_edition the edition
  *   upper 1 to 24      refused, the upper is the refusal's number, the lower its place: the index of a distance (0 to n) for 8
  *                      and 15, the number of a curve (1 to n) for 9 to 14, 19 and 20, of a vertex (1 to n) for 21 to 23 (0 for the
  *                      first grade), else 0; of several refusals the first in order

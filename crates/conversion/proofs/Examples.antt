@@ -38,6 +38,7 @@ pub record Examples : Type 0 where
   pub none : outcome (convertChecks second9 0) ≡ refused 2 0
   -- the order
   pub reading-first : outcome (convertChecks (sheet9 ++ (0 ∷ [])) 3) ≡ refused 7 0
+  pub distance-first : outcome (convertChecks (0x10 ∷ 0x11 ∷ 0xA0 ∷ replicate 7 0) 1) ≡ refused 8 0
   pub edition-before-start : outcome (convertChecks (from 0xA0 0x2F 0xAF 0x08 0x04) 2) ≡ refused 2 0
   pub start-before-room : conversion (from 0xA0 0x2F 0xAF 0x08 0x04) 1 [] .reply ≡ unfilled 24 0
   pub too-small : conversion sheet9 2 (replicate 9 7) .reply ≡ unfilled 16 0
@@ -60,6 +61,7 @@ examples =
       third = refl;
       none = refl;
       reading-first = refl;
+      distance-first = refl;
       edition-before-start = refl;
       start-before-room = refl;
       too-small = refl;

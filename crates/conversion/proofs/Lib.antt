@@ -4,5 +4,6 @@ pub mod SameLine
 pub mod ThereAndBack
 pub mod EveryFirst
 pub mod Refusals
+pub mod Written
 pub mod Calls
 pub mod Examples

@@ -1,9 +1,12 @@
 // The converter of document 02, N6: a sheet of one edition to the sheet of the same line in the other.
 ghost use mathlib.Core.Path.{_≡_};
+ghost use Prim.Native.Nat.{ℕ};
+ghost use lib.ListN.{take};
 ghost use Rattle.refusals.specs.Outcomes.{outcomeOf};
 ghost use Rattle.refusals.specs.Order.{outcome};
-ghost use Rattle.refusals.specs.Filling.{fillReplyOf};
-ghost use Rattle.conversion.specs.Conversion.{otherNumber, askedChecks, conversion};
+ghost use Rattle.refusals.specs.Filling.{filled, fillReplyOf};
+ghost use Rattle.packed_sheet.specs.Reading.{readEdition};
+ghost use Rattle.conversion.specs.Conversion.{otherNumber, askedChecks, converted, conversion};
 use refusals::FillAnswer;
 use refusals::Refusal;
 use refusals::Verdict;
@@ -30,10 +33,11 @@ fn check_asked(number: u32, start: u32, asked: u32) -> Verdict
 
 // The sheet of the same line in the other edition, which is asked for by its number, at the front of `bytes`. Answers its length in bytes, or
 // the first refusal: the reader's 1 to 11, 2 where another edition is asked for, 24 where edition 1 is and the start is over 200,000,000 mm,
-// then 16; a refusal leaves `bytes` as they were. Any bytes and any number are taken.
+// then 16; a refusal leaves `bytes` as they were. Any bytes and any number are taken. What it writes is converted back to the same sheet.
 pub fn convert(sheet: &[u8], edition: u32, bytes: &mut [u8]) -> FillAnswer
     ensures answer { λ a. ⌜ fillReplyOf a ≡ conversion (now (sheet .entry)) edition (now (bytes .entry)) .reply ⌝ }
     ensures memory { λ _. ⌜ now (bytes .exit) ≡ conversion (now (sheet .entry)) edition (now (bytes .entry)) .buffer ⌝ }
+    ensures back { λ a. ⌜ ((count : ℕ) → fillReplyOf a ≡ filled count → converted (take count (now (bytes .exit))) (readEdition (now (sheet .entry))) ≡ now (sheet .entry)) ⌝ }
 {
     let read = sheet::read(sheet);
     let line = read.line;

@@ -43,7 +43,7 @@ numbered-holds =
 
 -- "706 are the longest of both": a sheet of 64 curves or fewer has no more bytes, and none that reads has.
 pub longest : (number n : ℕ) → n ≤ 64 → byteCount (numbered number) n ≤ 706
-longest number n few = omega (arith, numbered-holds number .narrow)
+longest number n few = of-both (λ (E : Edition). byteCount E n ≤ 706) (omega arith) (omega arith) number
 
 pub no-longer : (sheet : List ℕ) → outcome (readChecks sheet) ≡ passed → length sheet ≤ 706
 unfolding editionOf
@@ -102,9 +102,19 @@ pub reported : (sheet : List ℕ) → outcome (readChecks sheet) ≡ passed → 
 unfolding readEdition
 reported sheet e = ap (λ (o : Outcome). numberAfter o (editionOf sheet .number)) e
 
+pub reported-one-or-two : (sheet : List ℕ) → outcome (readChecks sheet) ≡ passed → (readEdition sheet ≡ 1) ⊎ (readEdition sheet ≡ 2)
+unfolding editionOf
+reported-one-or-two sheet e =
+    of-both (λ (E : Edition). readEdition sheet ≡ E .number → (readEdition sheet ≡ 1) ⊎ (readEdition sheet ≡ 2)) inl inr (bitsAt sheet 0 editionWidth) (reported sheet e)
+
 pub reported-edition : (sheet : List ℕ) → outcome (readChecks sheet) ≡ passed → numbered (readEdition sheet) ≡ editionOf sheet
 unfolding editionOf
 reported-edition sheet e = ap numbered (reported sheet e) ∙ own-number _
+
+-- Check 2 of the reader asks what the writer's does, of the number in the first four bits.
+pub named-as-told : (sheet : List ℕ) → outcome (editionCheck (bitsAt sheet 0 editionWidth)) ≡ need (eqb (headOf (editionOf sheet) sheet .edition) (editionOf sheet .number)) 2 0
+unfolding editionCheck editionOf headOf valuesAt
+named-as-told sheet = refl
 
 -- ---- the edition that is told
 

@@ -54,6 +54,10 @@ from1 a b c d e = 0x10 ∷ 0x11 ∷ a ∷ b ∷ c ∷ d ∷ e ∷ 0xF4 ∷ 0x24 
 abbrev from2 : ℕ → ℕ → ℕ → ℕ → ℕ → List ℕ
 from2 a b c d e = 0x20 ∷ 0x11 ∷ a ∷ b ∷ c ∷ d ∷ e ∷ 0x0F ∷ 0x42 ∷ 0x40 ∷ []
 
+-- From the greatest start of edition 2.
+abbrev pub farSheet : List ℕ
+farSheet = from2 0xA3 0xB9 0xAC 0xA0 0x00
+
 abbrev farLine : ℕ → Line
 farLine start =
     record { speed = 70; crossfall = 8; start = start; count = 0; distances = 500000 ∷ replicate 64 0; curves = replicate 64 blankCurve }
@@ -121,14 +125,20 @@ pub record Examples : Type 0 where
   pub second-full : length (sheetOf secondEdition fullLine) ≡ 706
   pub first-edition : readEdition curved ≡ 1
   pub unread-edition : readEdition nineBytes ≡ 0
+  pub refused-edition : readEdition (0x20 ∷ 0x11 ∷ 0xA0 ∷ replicate 7 0) ≡ 0
+  -- three curves, where a sheet of edition 2 has a byte more
+  pub bytes-3 : byteCount firstEdition 3 ≡ 42
+  pub second-bytes-3 : byteCount secondEdition 3 ≡ 43
   -- the greatest starts, and one more
   pub first-greatest : readLine (from1 0xA2 0xFA 0xF0 0x80 0x00) ≡ farLine 200000000
   pub first-beyond : outcome (readChecks (from1 0xA2 0xFA 0xF0 0x80 0x40)) ≡ refused 6 0
-  pub second-greatest : readLine (from2 0xA3 0xB9 0xAC 0xA0 0x00) ≡ farLine 4000000000
+  pub second-greatest-read : outcome (readChecks farSheet) ≡ passed
+  pub second-greatest-edition : readEdition farSheet ≡ 2
+  pub second-greatest : readLine farSheet ≡ farLine 4000000000
   pub second-beyond : outcome (readChecks (from2 0xA3 0xB9 0xAC 0xA0 0x04)) ≡ refused 6 0
   pub told-first : sheetIn 1 (farLine 200000001) (replicate 10 7) .reply ≡ unfilled 6 0
   pub told-second : sheetIn 2 (farLine 200000001) (replicate 10 7) .reply ≡ filled 10
-  pub told-second-greatest : sheetIn 2 (farLine 4000000000) (replicate 11 7) .buffer ≡ from2 0xA3 0xB9 0xAC 0xA0 0x00 ++ (7 ∷ [])
+  pub told-second-greatest : sheetIn 2 (farLine 4000000000) (replicate 11 7) .buffer ≡ farSheet ++ (7 ∷ [])
   pub told-second-beyond : sheetIn 2 (farLine 4000000001) (replicate 10 7) .reply ≡ unfilled 6 0
   -- other editions
   pub third-read : outcome (readChecks (0x30 ∷ 0x11 ∷ 0xA0 ∷ 0x00 ∷ 0x00 ∷ 0x00 ∷ 0x00 ∷ 0x0F ∷ 0x42 ∷ 0x40 ∷ [])) ≡ refused 2 0
@@ -193,8 +203,13 @@ examples =
       second-full = refl;
       first-edition = refl;
       unread-edition = refl;
+      refused-edition = refl;
+      bytes-3 = refl;
+      second-bytes-3 = refl;
       first-greatest = refl;
       first-beyond = refl;
+      second-greatest-read = refl;
+      second-greatest-edition = refl;
       second-greatest = refl;
       second-beyond = refl;
       told-first = refl;

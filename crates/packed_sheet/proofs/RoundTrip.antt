@@ -2,12 +2,13 @@
 use mathlib.Core.Path.{_≡_, sym, _∙_, ap}
 use mathlib.Core.List.{List}
 use Prim.Native.Nat.{ℕ, _≤_}
+use native.Mathlib.Omega.{arith}
 use Rattle.refusals.specs.Outcomes.{Outcome, passed}
 use Rattle.refusals.specs.Order.{outcome}
 use Rattle.line.specs.declared.Line.{Line}
-use Rattle.line.specs.Checks.{fieldChecks}
+use Rattle.line.specs.Checks.{greatestStart, fieldChecks, lineChecks}
 use Rattle.line.specs.Entries.{lineAfter, cleared}
-use Rattle.line.proofs.InRange.{line-in-range}
+use Rattle.line.proofs.InRange.{line-in-range, line-passes, other-greatest}
 use Rattle.bits.specs.Bits.{Bytes}
 use Rattle.packed_sheet.specs.declared.Edition.{Edition}
 use Rattle.packed_sheet.specs.Layout.{numbered, editionCheck, Holds}
@@ -17,7 +18,7 @@ use Rattle.packed_sheet.proofs.Frames.{framed}
 use Rattle.packed_sheet.proofs.WaysOut.{frame-passes, accepted-line}
 use Rattle.packed_sheet.proofs.WrittenAgain.{line-cleared, sheet-again}
 use Rattle.packed_sheet.proofs.ReadAgain.{line-again, read-again}
-use Rattle.packed_sheet.proofs.Editions.{numbered-holds, own-passes, known-number, edition-again, reported, reported-edition, told-edition, told-fields, both-pass}
+use Rattle.packed_sheet.proofs.Editions.{numbered-holds, start-of-line, own-passes, known-number, edition-again, reported, reported-edition, told-edition, told-fields, both-pass}
 
 -- A line written and read again comes back with its unused entries zero.
 pub write-then-read : (E : Edition) → Holds E → (line : Line) → outcome (fieldChecks (E .greatest) line) ≡ passed
@@ -61,6 +62,12 @@ read-passes s e =
 -- Its start is one that its edition holds.
 pub start-held : (s : List ℕ) → outcome (readChecks s) ≡ passed → readLine s .start ≤ numbered (readEdition s) .greatest
 start-held s e = line-in-range (readLine s) (told-fields (readEdition s) (readLine s) (read-passes s e)) .start-most
+
+-- And so it is one that lines may have: a line that is read passes where lines are worked on.
+pub read-line-passes : (s : List ℕ) → outcome (readChecks s) ≡ passed → outcome (lineChecks (readLine s)) ≡ passed
+read-line-passes s e =
+    let ok = line-in-range (readLine s) (told-fields (readEdition s) (readLine s) (read-passes s e)) in
+    line-passes (readLine s) (other-greatest greatestStart (readLine s) ok (omega (arith, start-held s e, start-of-line (readEdition s))))
 
 pub read-written : (s : List ℕ) → Bytes s → outcome (readChecks s) ≡ passed → sheetOf (numbered (readEdition s)) (readLine s) ≡ s
 read-written s bytes e = ap (λ (E : Edition). sheetOf E (readLine s)) (reported-edition s e) ∙ read-then-write (editionOf s) s bytes e

@@ -24,13 +24,12 @@ numbered number = cond (eqb number 2) secondEdition firstEdition
 unfoldable pub editionCheck : ℕ → Checks
 editionCheck number = check (eqb number (numbered number .number)) 2 0
 
--- An edition whose number and greatest start have room in the head's bits. A start of 26 to 32 bits leaves the head room in seven bytes, and
--- gives every sheet as many.
+-- An edition whose number and greatest start have room in the head's bits, whose head has room in seven bytes, and whose sheets have as many.
 pub record Holds (E : Edition) : Type 0 where
   pub number : E .number < 2 ^ 4
   pub start : E .greatest < 2 ^ E .width
-  pub wide : 26 ≤ E .width
-  pub narrow : E .width ≤ 32
+  pub wide : 2 ≤ E .width
+  pub narrow : E .width ≤ 34
 
 -- "edition 4"
 abbrev pub editionWidth : ℕ

@@ -22,7 +22,7 @@ use Rattle.stationing.specs.RoadTables.{frictionAt, leastSpiralAt, radiusServes
 use Rattle.stationing.specs.Stations.{spiralAt, arcAt, tangentAt, tangentBefore, tangentAfter, straightAt, formerST}
 use Rattle.stationing.specs.Answer.{designChecks, designChecksAt, straightCheck, alignmentChecks}
 use Rattle.stationing.specs.LineElements.{elementsFrom, elementsOf, total, lineLength, placedFrom, placedElements}
-use Rattle.stationing.proofs.Examples.{caseLine, noCurve, lineOf}
+use Rattle.stationing.proofs.Examples.{caseLine, noCurveFrom, noCurve, lineOf}
 use Rattle.pegs.specs.Pegs.{alongLine, holds, lastStraight, holding, elementUnder, PegValues, pegBy, stationCheck, pegChecks, pegReply}
 use Rattle.pegs.specs.Numbers.{kindNumber, pegNumbers, stationNumbers}
 
@@ -96,6 +96,9 @@ pub record Examples : Type 0 where
   pub no-curve : fill (pegChecks noCurve 250000000) (stationNumbers noCurve 250000000) (replicate 6 (pos 7)) .reply ≡ filled 5
   pub no-curve-numbers : fill (pegChecks noCurve 250000000) (stationNumbers noCurve 250000000) (replicate 6 (pos 7)) .buffer
       ≡ pos 0 ∷ pos 0 ∷ pos 250000000 ∷ pos 0 ∷ pos 0 ∷ pos 7 ∷ []
+  pub far : fill (pegChecks (noCurveFrom 4000000000) 4000250000000) (stationNumbers (noCurveFrom 4000000000) 4000250000000) (replicate 6 (pos 7)) .reply ≡ filled 5
+  pub far-numbers : fill (pegChecks (noCurveFrom 4000000000) 4000250000000) (stationNumbers (noCurveFrom 4000000000) 4000250000000) (replicate 6 (pos 7)) .buffer
+      ≡ pos 0 ∷ pos 0 ∷ pos 250000000 ∷ pos 0 ∷ pos 0 ∷ pos 7 ∷ []
   pub sixteen-last : fill (pegChecks noCurve 500000001) (stationNumbers noCurve 500000001) [] .reply ≡ unfilled 17 0
   pub fifteen-first : pegReply (caseLine 180990 350000 40000) 879659908 ≡ declined 15 0
   pub kinds : map kindNumber (Straight ∷ SpiralIn ∷ Arc ∷ SpiralOut ∷ []) ≡ 0 ∷ 1 ∷ 2 ∷ 3 ∷ []
@@ -133,6 +136,8 @@ examples =
       left-half = refl;
       no-curve = refl;
       no-curve-numbers = refl;
+      far = refl;
+      far-numbers = refl;
       sixteen-last = refl;
       fifteen-first = refl;
       kinds = refl;

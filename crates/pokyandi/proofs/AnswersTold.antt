@@ -1,6 +1,7 @@
 -- What a caller in C or Rust reads off an answer: the upper 32 bits are 0 after a count and else the refusal's number, 1 to 24; the lower
 -- ones are the count or the place. Assumes nothing.
-use mathlib.Core.Path.{_≡_, refl}
+use mathlib.Core.Path.{_≡_, refl, _∙_}
+use mathlib.Core.Logic.{_⊎_, inl, inr, ⊎-elim}
 use mathlib.Core.List.{List}
 use Prim.Native.Nat.{ℕ, _/_, _%_, _^_, _<_, _≤_}
 use native.Mathlib.Omega.{arith}
@@ -10,6 +11,7 @@ use Rattle.refusals.specs.Outcomes.{Outcome, passed, refused}
 use Rattle.refusals.specs.Filling.{FillReply, filled, unfilled, countAfter, withRoom, fill}
 use Rattle.refusals.specs.Order.{Checks, unchecked, outcome}
 use Rattle.refusals.proofs.Numbers.{Refuses, refusal-numbers, wider}
+use Rattle.refusals.proofs.Filled.{filled-passed}
 use Rattle.refusals.proofs.InOrder.{held}
 use Rattle.refusals.proofs.Joining.{passed-left, passed-right}
 use Rattle.line.specs.Checks.{curveChecks, fieldChecks}
@@ -22,7 +24,7 @@ use Rattle.packed_sheet.specs.Layout.{numbered, editionCheck}
 use Rattle.packed_sheet.specs.Reading.{editionOf, readChecks, readLine, readEdition}
 use Rattle.packed_sheet.proofs.Frames.{framed, count-below}
 use Rattle.round_trips.proofs.Numbers.{read-numbers}
-use Rattle.packed_sheet.proofs.Editions.{numbered-holds, edition-holds, reported}
+use Rattle.packed_sheet.proofs.Editions.{numbered-holds, edition-holds, reported, reported-one-or-two}
 use Rattle.conversion.specs.Conversion.{convertChecks, converted, conversion}
 use Rattle.conversion.proofs.Accepted.{reads}
 use Rattle.conversion.proofs.Refusals.{convert-numbers}
@@ -104,11 +106,19 @@ module _ (sheet : List ℕ) where
       reply-told 16 (omega arith) (readChecks sheet) (sheetNumbers sheet) lent read-few
       (λ e. omega (arith, line-length line, line-in-range line (accepted-line (editionOf sheet) sheet e) .few))
 
-  pub edition-told : Told 16 (editionReply sheet)
+  -- The edition, 1 or 2, or a refusal of the reader's, 1 to 11.
+  pub edition-told : Told 11 (editionReply sheet)
   unfolding editionReply
   edition-told =
-      outcome-told 16 (readChecks sheet) (outcome (readChecks sheet)) (readEdition sheet) read-few refl
+      outcome-told 11 (readChecks sheet) (outcome (readChecks sheet)) (readEdition sheet)
+      (wider (readChecks sheet) (read-numbers sheet) (omega arith) (omega arith) (omega (arith, count-below (editionOf sheet) sheet refl))) refl
       (λ e. omega (arith, reported sheet e, edition-holds sheet .number))
+
+  pub edition-one-or-two : {n : ℕ} → editionReply sheet ≡ filled n → (n ≡ 1) ⊎ (n ≡ 2)
+  unfolding editionReply
+  edition-one-or-two {n} e =
+      let told = filled-passed (outcome (readChecks sheet)) (readEdition sheet) e in
+      ⊎-elim (λ one. inl (told .1 ∙ one)) (λ two. inr (told .1 ∙ two)) (reported-one-or-two sheet (told .0))
 
   pub convert-told : (asked : ℕ) (lent : List ℕ) → Told 24 (conversion sheet asked lent .reply)
   unfolding conversion converted

@@ -2,20 +2,26 @@
 use mathlib.Core.Path.{_≡_, refl, sym, _∙_, ap}
 use mathlib.Core.List.{List, [], _∷_}
 use Prim.Native.Nat.{ℕ}
-use lib.IntN.{pos}
+use lib.IntN.{ℤ, pos}
 use lib.ListN.{length, replicate}
-use Rattle.refusals.specs.Outcomes.{Outcome}
+use Rattle.refusals.specs.Outcomes.{Outcome, passed}
+use Rattle.refusals.specs.Order.{outcome}
 use Rattle.refusals.specs.Filling.{filled, unfilled, countAfter, withRoom, fill}
 use Rattle.refusals.proofs.Filled.{found}
 use Rattle.line.specs.Entries.{entries}
 use Rattle.line_numbers.specs.Numbers.{numbersTo, lineNumbers, lineOf, countCheck, numbersChecks}
 use Rattle.packed_sheet.specs.Layout.{numbered, editionCheck}
-use Rattle.packed_sheet.proofs.Examples.{sheet9}
+use Rattle.packed_sheet.specs.Reading.{readChecks, readLine}
+use Rattle.packed_sheet.proofs.Examples.{sheet9, farSheet}
 use Rattle.packed_sheet.proofs.Examples as sheets
 use Rattle.elements.specs.declared.Elements.{Elements}
 use Rattle.elements.proofs.Replies.{found-elements}
 use Rattle.elements.proofs.Examples as curves
+use Rattle.stationing.specs.Answer.{stationsIn}
+use Rattle.stationing.proofs.Examples.{noCurveFrom}
 use Rattle.stationing.proofs.Examples as lines
+use Rattle.pegs.specs.Pegs.{pegChecks}
+use Rattle.pegs.specs.Numbers.{stationNumbers}
 use Rattle.pegs.proofs.Examples as pegs
 use Rattle.station_report.specs.Report.{sheetChecks}
 use Rattle.station_report.proofs.Examples.{sheet4}
@@ -47,6 +53,13 @@ pub record Examples : Type 0 where
   pub case-9-peg-numbers : fill (sheetPegChecks sheet9 250000000) (sheetPeg sheet9 250000000) (replicate 6 (pos 7)) .buffer
       ≡ pos 0 ∷ pos 0 ∷ pos 250000000 ∷ pos 0 ∷ pos 0 ∷ pos 7 ∷ []
   pub case-10-cut-peg : fill (sheetPegChecks cut 0) (sheetPeg cut 0) [] .reply ≡ unfilled 1 0
+  -- ---- the same line from the greatest start, in edition 2
+  pub far-edition : editionReply farSheet ≡ filled 2
+  pub far-numbers : sheetNumbers farSheet ≡ 0 ∷ 70 ∷ 8 ∷ 4000000000 ∷ 500000 ∷ []
+  pub far-stations : fill (sheetChecks farSheet) (sheetStations farSheet) (7 ∷ []) .buffer ≡ 4000500000000 ∷ []
+  pub far-checked : checkReply farSheet ≡ filled 1
+  pub far-peg : fill (sheetPegChecks farSheet 4000250000000) (sheetPeg farSheet 4000250000000) (replicate 6 (pos 7)) .buffer
+      ≡ pos 0 ∷ pos 0 ∷ pos 250000000 ∷ pos 0 ∷ pos 0 ∷ pos 7 ∷ []
   pub case-9-end : fill (sheetChecks sheet9) (sheetStations sheet9) (7 ∷ []) .buffer ≡ 500000000 ∷ []
 
 -- Case 1's curve as the element call answers it.
@@ -54,25 +67,40 @@ abbrev elements1 : Elements
 elements1 =
     record { x = 39986941; y = 761727; centre = 19997824; shift = 190454; arc = 261638467; tangent = 180989280 }
 
--- Case 9, whose row held 7.
+-- A sheet of one number, whose row held 7, and the peg in its middle.
+module _ (sheet : List ℕ) (start end : ℕ) (reads : outcome (readChecks sheet) ≡ passed) (line : readLine sheet ≡ noCurveFrom start) where
+  stations1 : stationsIn (noCurveFrom start) (7 ∷ []) .reply ≡ filled 1 → stationsIn (noCurveFrom start) (7 ∷ []) .buffer ≡ end ∷ []
+      → (filled 1 ≡ fill (sheetChecks sheet) (sheetStations sheet) (7 ∷ []) .reply)
+      × (end ∷ [] ≡ fill (sheetChecks sheet) (sheetStations sheet) (7 ∷ []) .buffer)
+  stations1 counted row = stations-reply sheet reads (sym line) (7 ∷ []) (sym counted, sym row)
+
+  checked1 : filled 1 ≡ fill (sheetChecks sheet) (sheetStations sheet) (7 ∷ []) .reply → checkReply sheet ≡ filled 1
+  unfolding checkReply
+  checked1 counted =
+      let told = found (sheetChecks sheet) (sheetStations sheet) (7 ∷ []) (sym counted) in
+      ap (λ (o : Outcome). countAfter o (length (sheetStations sheet))) (told .checked) ∙ ap filled (sym (told .all))
+
+  peg1 : (station : ℕ) {numbers : List ℤ}
+      → fill (pegChecks (noCurveFrom start) station) (stationNumbers (noCurveFrom start) station) (replicate 6 (pos 7)) .reply ≡ filled 5
+      → fill (pegChecks (noCurveFrom start) station) (stationNumbers (noCurveFrom start) station) (replicate 6 (pos 7)) .buffer ≡ numbers
+      → (filled 5 ≡ fill (sheetPegChecks sheet station) (sheetPeg sheet station) (replicate 6 (pos 7)) .reply)
+      × (numbers ≡ fill (sheetPegChecks sheet station) (sheetPeg sheet station) (replicate 6 (pos 7)) .buffer)
+  peg1 station counted numbers = peg-reply sheet reads (sym line) station (replicate 6 (pos 7)) (sym counted, sym numbers)
+
 stations9 : (filled 1 ≡ fill (sheetChecks sheet9) (sheetStations sheet9) (7 ∷ []) .reply)
     × (500000000 ∷ [] ≡ fill (sheetChecks sheet9) (sheetStations sheet9) (7 ∷ []) .buffer)
 stations9 =
-    stations-reply sheet9 (sheets.examples .case-9-read) (sym (sheets.examples .case-9-line)) (7 ∷ [])
-    (sym (lines.examples .case-9), sym (lines.examples .case-9-row))
+    stations1 sheet9 0 500000000 (sheets.examples .case-9-read) (sheets.examples .case-9-line) (lines.examples .case-9) (lines.examples .case-9-row)
 
--- And the peg in its middle.
 peg9 : (filled 5 ≡ fill (sheetPegChecks sheet9 250000000) (sheetPeg sheet9 250000000) (replicate 6 (pos 7)) .reply)
     × (pos 0 ∷ pos 0 ∷ pos 250000000 ∷ pos 0 ∷ pos 0 ∷ pos 7 ∷ [] ≡ fill (sheetPegChecks sheet9 250000000) (sheetPeg sheet9 250000000) (replicate 6 (pos 7)) .buffer)
 peg9 =
-    peg-reply sheet9 (sheets.examples .case-9-read) (sym (sheets.examples .case-9-line)) 250000000 (replicate 6 (pos 7))
-    (sym (pegs.examples .no-curve), sym (pegs.examples .no-curve-numbers))
+    peg1 sheet9 0 500000000 (sheets.examples .case-9-read) (sheets.examples .case-9-line) 250000000 (pegs.examples .no-curve) (pegs.examples .no-curve-numbers)
 
-checked9 : checkReply sheet9 ≡ filled 1
-unfolding checkReply
-checked9 =
-    let told = found (sheetChecks sheet9) (sheetStations sheet9) (7 ∷ []) (sym (stations9 .0)) in
-    ap (λ (o : Outcome). countAfter o (length (sheetStations sheet9))) (told .checked) ∙ ap filled (sym (told .all))
+farStations : (filled 1 ≡ fill (sheetChecks farSheet) (sheetStations farSheet) (7 ∷ []) .reply)
+    × (4000500000000 ∷ [] ≡ fill (sheetChecks farSheet) (sheetStations farSheet) (7 ∷ []) .buffer)
+farStations =
+    stations1 farSheet 4000000000 4000500000000 (sheets.examples .second-greatest-read) (sheets.examples .second-greatest) (lines.examples .greatest-start) (lines.examples .greatest-start-row)
 
 pub examples : Examples
 unfolding numbered editionCheck countCheck numbersChecks toldChecks withRoom fill answerNumber checkReply sheetNumbers numbersSheet numbersTo lineNumbers lineOf entries
@@ -90,9 +118,16 @@ examples =
       edition-first = refl;
       count-second = refl;
       case-9 = sym (stations9 .0);
-      case-9-checked = checked9;
+      case-9-checked = checked1 sheet9 0 500000000 (sheets.examples .case-9-read) (sheets.examples .case-9-line) (stations9 .0);
       case-9-peg = sym (peg9 .0);
       case-9-peg-numbers = sym (peg9 .1);
       case-10-cut-peg = sym (refused-peg cut 0 [] (sheets.examples .case-10-cut) .0);
+      far-edition = sym (edition-reply farSheet (sheets.examples .second-greatest-read) (sym (sheets.examples .second-greatest-edition)));
+      far-numbers = ap lineNumbers (sheets.examples .second-greatest);
+      far-stations = sym (farStations .1);
+      far-checked = checked1 farSheet 4000000000 4000500000000 (sheets.examples .second-greatest-read) (sheets.examples .second-greatest) (farStations .0);
+      far-peg =
+          sym
+          (peg1 farSheet 4000000000 4000500000000 (sheets.examples .second-greatest-read) (sheets.examples .second-greatest) 4000250000000 (pegs.examples .far) (pegs.examples .far-numbers) .1);
       case-9-end = sym (stations9 .1);
     }

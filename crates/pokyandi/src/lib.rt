@@ -11,7 +11,7 @@ ghost use lib.ListN.{take};
 ghost use Rattle.refusals.specs.Order.{unchecked};
 ghost use Rattle.refusals.specs.Filling.{fill};
 ghost use Rattle.packed_sheet.specs.Reading.{readChecks, readEdition};
-ghost use Rattle.conversion.specs.Conversion.{conversion};
+ghost use Rattle.conversion.specs.Conversion.{converted, conversion};
 ghost use Rattle.elements.specs.Answer.{elementChecks};
 ghost use Rattle.coordinates.specs.FromPoints.{fromPointsChecks};
 ghost use Rattle.profile_numbers.specs.Numbers.{heightNumbers, numbersChecks as profileNumbersChecks};
@@ -99,11 +99,12 @@ pub extern "C" fn pokyandi_edition(sheet: &[u8]) -> u64
 }
 
 // The sheet of the same line in the other edition (document 02, N6), at the front of `bytes`. Refusals 1 to 11, 2 where another edition is asked
-// for than the other one, 24 where edition 1 is and the start is over 200,000,000 mm, then 16.
+// for than the other one, 24 where edition 1 is and the start is over 200,000,000 mm, then 16. What it counts is converted back to the sheet.
 #[no_mangle]
 pub extern "C" fn pokyandi_convert(sheet: &[u8], edition: u32, bytes: &mut [u8]) -> u64
     ensures answer { λ r. ⌜ r ≡ answerNumber (conversion (now (sheet .entry)) edition (now (bytes .entry)) .reply) ⌝ }
     ensures memory { λ _. ⌜ now (bytes .exit) ≡ conversion (now (sheet .entry)) edition (now (bytes .entry)) .buffer ⌝ }
+    ensures back { λ r. ⌜ (r < 2 ^ 32 → converted (take r (now (bytes .exit))) (readEdition (now (sheet .entry))) ≡ now (sheet .entry)) ⌝ }
 {
     answer_number(conversion::convert(sheet, edition, &mut *bytes))
 }

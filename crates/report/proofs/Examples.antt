@@ -11,6 +11,7 @@ pub record Examples : Type 0 where
   pub case-1 : stationList (319010720 ∷ 359010720 ∷ 620649187 ∷ 660649187 ∷ 879659907 ∷ [])
       ≡ ascii "POINT CURVE STATION\nTS 1 319.010720\nSC 1 359.010720\nCS 1 620.649187\nST 1 660.649187\nEND 0 879.659907\n"
   pub no-curve : stationList (500000000 ∷ []) ≡ ascii "POINT CURVE STATION\nEND 0 500.000000\n"
+  pub far : stationList (4000500000000 ∷ []) ≡ ascii "POINT CURVE STATION\nEND 0 4000500.000000\n"
   pub second-curve : pointLine (1 ∷ 2 ∷ 3 ∷ 4 ∷ 5 ∷ 6 ∷ 7 ∷ 8 ∷ 9 ∷ []) 6 ≡ ascii "CS 2 0.000007\n"
   pub third-curve : pointLine (replicate 13 7) 8 ≡ ascii "TS 3 0.000007\n"
   pub last-curve : pointLine (replicate 257 7) 255 ≡ ascii "ST 64 0.000007\n"
@@ -32,6 +33,7 @@ examples =
     record {
       case-1 = refl;
       no-curve = refl;
+      far = refl;
       second-curve = refl;
       third-curve = refl;
       last-curve = refl;

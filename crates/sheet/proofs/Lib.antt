@@ -1,2 +1,3 @@
 -- Laws that the proofs of the writer cite.
+pub mod Handled
 pub mod Pens

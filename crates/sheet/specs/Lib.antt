@@ -1,2 +1,3 @@
 -- What the contracts of `sheet`'s private functions cite.
+pub mod Handled
 pub mod Pens

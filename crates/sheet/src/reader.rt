@@ -6,9 +6,10 @@ ghost use Rattle.refusals.specs.Outcomes.{passed, outcomeOf};
 ghost use Rattle.refusals.specs.Order.{outcome};
 ghost use Rattle.bits.specs.Bits.{valuesAt};
 ghost use Rattle.line.specs.Entries.{blankLine};
-ghost use Rattle.packed_sheet.specs.Layout.{numbered, Holds, curveWidths};
+ghost use Rattle.packed_sheet.specs.Layout.{numbered, curveWidths};
 ghost use Rattle.packed_sheet.specs.Reading.{headOf, curveFrom, sizeChecks, frameChecks, lineOf, editionOf, readChecks, readLine, readEdition};
 ghost use Rattle.packed_sheet.specs.Writing.{sheetOf};
+ghost use Rattle.sheet.specs.Handled.{Handled};
 use crate::fields::bits_at;
 use crate::fields::last_bits;
 use crate::fields::long_bits_at;
@@ -55,7 +56,7 @@ fn read_edition(sheet: &[u8]) -> Edition
 }
 
 fn read_head(edition: Edition, sheet: &[u8]) -> Head
-    requires { ⌜ Holds edition × (7 ≤ length (now sheet)) ⌝ }
+    requires { ⌜ Handled edition × (7 ≤ length (now sheet)) ⌝ }
     ensures { λ r. ⌜ r ≡ headOf edition (now (sheet .entry)) ⌝ }
 {
     let count_at = EDITION;
@@ -72,7 +73,7 @@ fn read_head(edition: Edition, sheet: &[u8]) -> Head
 
 // Refusals 1 and 7 of a sheet that says it has `n` curves.
 fn check_size(edition: Edition, sheet: &[u8], n: usize) -> Verdict
-    requires { ⌜ Holds edition × (n < 128) ⌝ }
+    requires { ⌜ Handled edition × (n < 128) ⌝ }
     ensures { λ r. ⌜ outcomeOf r ≡ outcome (sizeChecks edition (now (sheet .entry)) n) ⌝ }
 {
     let bits = bit_count(edition, n);
@@ -89,7 +90,7 @@ fn check_size(edition: Edition, sheet: &[u8], n: usize) -> Verdict
 
 // The first of refusals 2 to 7.
 fn check_frame(edition: Edition, sheet: &[u8], head: Head) -> Verdict
-    requires { ⌜ Holds edition × (7 ≤ length (now sheet)) × (head ≡ headOf edition (now sheet)) ⌝ }
+    requires { ⌜ Handled edition × (7 ≤ length (now sheet)) × (head ≡ headOf edition (now sheet)) ⌝ }
     ensures { λ r. ⌜ outcomeOf r ≡ outcome (frameChecks edition (now (sheet .entry))) ⌝ }
 {
     let known = must(head.edition == edition.number, Refusal::Edition);
@@ -122,7 +123,7 @@ fn curve_at(sheet: &[u8], at: usize) -> Curve
 
 // The line of a sheet that passes 1 to 7.
 fn read_line(edition: Edition, sheet: &[u8], head: Head) -> Line
-    requires { ⌜ Holds edition × (outcome (frameChecks edition (now sheet)) ≡ passed) × (head ≡ headOf edition (now sheet)) ⌝ }
+    requires { ⌜ Handled edition × (outcome (frameChecks edition (now sheet)) ≡ passed) × (head ≡ headOf edition (now sheet)) ⌝ }
     ensures { λ r. ⌜ r ≡ lineOf edition (now (sheet .entry)) ⌝ }
 {
     let n = head.count;

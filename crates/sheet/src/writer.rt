@@ -8,9 +8,10 @@ ghost use Rattle.refusals.specs.Filling.{fillReplyOf};
 ghost use Rattle.refusals.specs.Order.{outcome};
 ghost use Rattle.line.specs.Checks.{distanceAt, fieldChecks};
 ghost use Rattle.bits.specs.Bits.{packed, Fit};
-ghost use Rattle.packed_sheet.specs.Layout.{numbered, Holds, headWidths, curveWidths, entryWidths, entryAt, byteCount};
+ghost use Rattle.packed_sheet.specs.Layout.{numbered, headWidths, curveWidths, entryWidths, entryAt, byteCount};
 ghost use Rattle.packed_sheet.specs.Writing.{curveValues, writeChecks, sheetIn};
 ghost use Rattle.packed_sheet.specs.EachStore.{Stores, StoreOf};
+ghost use Rattle.sheet.specs.Handled.{Handled};
 ghost use Rattle.sheet.specs.Pens.{position, Begun, Waits};
 use crate::layout::COUNT;
 use crate::layout::CROSSFALL;
@@ -42,7 +43,7 @@ use refusals::first;
 
 // The head's fields as one.
 fn head_bits(edition: Edition, count: u32, speed: u32, crossfall: u32, start: u32) -> u64
-    requires { ⌜ Holds edition × Fit (headWidths edition) (edition .number ∷ count ∷ speed ∷ crossfall ∷ start ∷ []) ⌝ }
+    requires { ⌜ Handled edition × Fit (headWidths edition) (edition .number ∷ count ∷ speed ∷ crossfall ∷ start ∷ []) ⌝ }
     ensures { λ r. ⌜ r ≡ packed 0 (headWidths edition) (edition .number ∷ count ∷ speed ∷ crossfall ∷ start ∷ []) ⌝ }
 {
     let n = join(edition.number as u64, COUNT, count as u64);
@@ -70,7 +71,7 @@ fn size_bits(curve: Curve) -> u64
 
 // The last distance, behind head and entries, with the zero bits that fill the last byte.
 fn put_end(edition: Edition, line: Line, bytes: &mut [u8], pen: Pen, distance: u32)
-    requires { ⌜ Holds edition × (outcome (fieldChecks (edition .greatest) line) ≡ passed) × (distance ≡ distanceAt line (line .count)) ⌝ }
+    requires { ⌜ Handled edition × (outcome (fieldChecks (edition .greatest) line) ≡ passed) × (distance ≡ distanceAt line (line .count)) ⌝ }
     requires { ⌜ Begun edition line (now bytes) (pen .at) × Waits edition line pen × (position pen ≡ entryAt edition (line .count)) ⌝ }
     ensures { λ _. ⌜ Stores edition line (pen .at) (now (bytes .entry)) (byteCount edition (line .count)) (now (bytes .exit)) ⌝ }
 {
@@ -83,7 +84,7 @@ fn put_end(edition: Edition, line: Line, bytes: &mut [u8], pen: Pen, distance: u
 
 // The sheet of a line that passes, at the front of bytes that are enough: head, distances and curves, the last distance and the fill.
 fn write_sheet(edition: Edition, line: Line, bytes: &mut [u8])
-    requires { ⌜ Holds edition × (outcome (fieldChecks (edition .greatest) line) ≡ passed) ⌝ }
+    requires { ⌜ Handled edition × (outcome (fieldChecks (edition .greatest) line) ≡ passed) ⌝ }
     requires { ⌜ byteCount edition (line .count) ≤ length (now bytes) ⌝ }
     ensures stores { λ _. ⌜ Stores edition line 0 (now (bytes .entry)) (byteCount edition (line .count)) (now (bytes .exit)) ⌝ }
     ensures each { λ _.

@@ -33,13 +33,13 @@ caseLine distance R L =
       curves = curve 177764 R L ∷ replicate 63 (curve 0 0 0);
     }
 
--- Case 9: no curve, distance 500,000.
-abbrev from : ℕ → Line
-from start =
+-- Case 9, from a start: no curve, distance 500,000.
+abbrev pub noCurveFrom : ℕ → Line
+noCurveFrom start =
     record { speed = 70; crossfall = 8; start = start; count = 0; distances = 500000 ∷ replicate 64 0; curves = replicate 64 (curve 0 0 0) }
 
 abbrev pub noCurve : Line
-noCurve = from 0
+noCurve = noCurveFrom 0
 
 -- Case 1's curve with other R and L.
 abbrev curve1 : (R L : ℕ) → Curve
@@ -82,8 +82,9 @@ pub record Examples : Type 0 where
   pub case-9 : stationsIn noCurve (7 ∷ []) .reply ≡ filled 1
   pub case-9-row : stationsIn noCurve (7 ∷ []) .buffer ≡ 500000000 ∷ []
   -- ---- the same from the greatest start of document 02, N6, and from one more
-  pub greatest-start : stationsIn (from 4000000000) (7 ∷ []) .buffer ≡ 4000500000000 ∷ []
-  pub start-beyond : stationsIn (from 4000000001) [] .reply ≡ unfilled 6 0
+  pub greatest-start : stationsIn (noCurveFrom 4000000000) (7 ∷ []) .reply ≡ filled 1
+  pub greatest-start-row : stationsIn (noCurveFrom 4000000000) (7 ∷ []) .buffer ≡ 4000500000000 ∷ []
+  pub start-beyond : stationsIn (noCurveFrom 4000000001) [] .reply ≡ unfilled 6 0
   -- ---- the road tables, each order, each place, each limit
   pub tables : (limits 40 48456 30000
       && limits 50 82021 30000
@@ -123,6 +124,7 @@ examples =
       case-9 = refl;
       case-9-row = refl;
       greatest-start = refl;
+      greatest-start-row = refl;
       start-beyond = refl;
       tables = refl;
       spiral-by-radius = refl;

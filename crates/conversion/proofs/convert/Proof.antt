@@ -2,18 +2,21 @@
 use mathlib.Core.Path.{_≡_, sym, _∙_, ap}
 use mathlib.Core.List.{List}
 use Prim.Native.Nat.{ℕ}
+use lib.ListN.{take}
 use borrow.Author.Needs.{needs}
 use Rattle.refusals.specs.Outcomes.{Outcome, passed, refused, outcomeOf, _▹_}
 use Rattle.refusals.specs.Order.{outcome}
-use Rattle.refusals.specs.Filling.{FillReply, unfilled}
+use Rattle.refusals.specs.Filling.{FillReply, filled, unfilled}
 use Rattle.refusals.proofs.Joining.{join}
 use Rattle.refusals.proofs.FillWays.{refused-fill, refill}
 use Rattle.line.specs.declared.Line.{Line}
+use Rattle.bits.specs.Bits.{Bytes}
 use Rattle.packed_sheet.specs.Layout.{numbered}
 use Rattle.packed_sheet.specs.Reading.{readChecks, readLine, readEdition}
 use Rattle.packed_sheet.specs.Writing.{sheetOf, writeChecks, sheetIn}
 use Rattle.conversion.specs.Conversion.{askedChecks, convertChecks, converted, conversion}
 use Rattle.conversion.proofs.Accepted.{writes}
+use Rattle.conversion.proofs.Written.{comes-back}
 use Rattle.conversion.proofs.convert.Statement.{statement}
 use Rattle.conversion.proofs.convert.Tie as tie
 
@@ -59,19 +62,34 @@ enum-known-verdict c = search needs
 same-length : tie.Need-same-length
 same-length c = search needs
 
+-- All that is promised, from answer and memory.
+promised : (sheet : List ℕ) → Bytes sheet → (asked : ℕ) (bytes : List ℕ) {reply : FillReply} {after : List ℕ}
+    → (reply ≡ conversion sheet asked bytes .reply) × (after ≡ conversion sheet asked bytes .buffer)
+    → (reply ≡ conversion sheet asked bytes .reply)
+    × ((after ≡ conversion sheet asked bytes .buffer) × ((count : ℕ) → reply ≡ filled count → converted (take count after) (readEdition sheet) ≡ sheet))
+promised sheet octets asked bytes told =
+    (told .0, (told .1, λ count counted. comes-back sheet bytes asked (sym (told .0) ∙ counted) octets (told .1)))
+
 returns : tie.Need-returns
 returns c =
     let joined = c .before .before .before .before .before .before in
+    let known = joined .before .before .before .before .before in
+    let a = known .before .args in
     let read = joined .before .before .before .read .ensures in
-    let all = checked _ _ (joined .first .ensures) (read .0) (read .1 .0) (read .1 .1 .0) (joined .before .check-asked .ensures) in
-    written-reply _ _ _ (sym all ∙ ap outcomeOf (c .before .before .before .before .enum-told .given .1)) (read .1 .1 .0) (c .before .before .write .ensures)
+    let all = checked (a .sheet .now) (a .edition) (joined .first .ensures) (read .0) (read .1 .0) (read .1 .1 .0) (joined .before .check-asked .ensures) in
+    let passes = sym all ∙ ap outcomeOf (c .before .before .before .before .enum-told .given .1) in
+    promised (a .sheet .now) (λ i. known .shared-slice-known .given i .fits) (a .edition) (a .bytes .now)
+    (written-reply (a .sheet .now) (a .edition) (a .bytes .now) passes (read .1 .1 .0) (c .before .before .write .ensures))
 
 returns-2 : tie.Need-returns-2
 returns-2 c =
     let joined = c .before .before .before in
+    let known = joined .before .before .before .before .before in
+    let a = known .before .args in
     let read = joined .before .before .before .read .ensures in
-    let all = checked _ _ (joined .first .ensures) (read .0) (read .1 .0) (read .1 .1 .0) (joined .before .check-asked .ensures) in
-    refused-reply _ _ _ (sym all ∙ ap outcomeOf (c .before .verdict .given .1))
+    let all = checked (a .sheet .now) (a .edition) (joined .first .ensures) (read .0) (read .1 .0) (read .1 .1 .0) (joined .before .check-asked .ensures) in
+    promised (a .sheet .now) (λ i. known .shared-slice-known .given i .fits) (a .edition) (a .bytes .now)
+    (refused-reply (a .sheet .now) (a .edition) (a .bytes .now) (sym all ∙ ap outcomeOf (c .before .verdict .given .1)))
 
 pub convert-spec : {M : Type 1} → statement M
 convert-spec =

@@ -1,6 +1,7 @@
 -- `pokyandi_convert` meets its contract. Assumes nothing.
 use mathlib.Core.Path.{_∙_, ap}
 use Rattle.pokyandi.specs.Answers.{answerNumber}
+use Rattle.pokyandi.proofs.ConvertedBack.{counted-back}
 use borrow.Author.Needs.{needs}
 use Rattle.pokyandi.proofs.pokyandi_convert.Statement.{statement}
 use Rattle.pokyandi.proofs.pokyandi_convert.Tie as tie
@@ -17,7 +18,7 @@ same-length c = search needs
 returns : tie.Need-returns
 returns c =
     let told = c .before .before .before .convert .ensures in
-    (c .answer-number .ensures ∙ ap answerNumber (told .0), told .1)
+    (c .answer-number .ensures ∙ ap answerNumber (told .0), (told .1 .0, counted-back _ _ _ _ _ _ (told .0) (c .answer-number .ensures) (told .1 .1)))
 
 pub pokyandi-convert-spec : {M : Type 1} → statement M
 pokyandi-convert-spec =

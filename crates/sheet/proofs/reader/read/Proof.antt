@@ -13,13 +13,15 @@ use Rattle.line.specs.Checks.{fieldChecks}
 use Rattle.line.specs.Entries.{lineAfter}
 use Rattle.bits.specs.Bits.{Bytes}
 use Rattle.packed_sheet.specs.declared.Edition.{Edition}
-use Rattle.packed_sheet.specs.Layout.{numbered, Holds}
+use Rattle.packed_sheet.specs.Layout.{numbered}
 use Rattle.packed_sheet.specs.Reading.{lineOf, frameChecks, editionOf, readChecks, readLine, numberAfter, readEdition}
 use Rattle.packed_sheet.specs.Writing.{sheetOf}
 use Rattle.packed_sheet.proofs.Frames.{no-head}
-use Rattle.packed_sheet.proofs.Editions.{edition-holds, edition-beside}
+use Rattle.packed_sheet.proofs.Editions.{edition-beside}
 use Rattle.packed_sheet.proofs.RoundTrip.{answer-again}
 use Rattle.packed_sheet.proofs.WaysOut.{line-beside, frame-refused, line-checked}
+use Rattle.sheet.specs.Handled.{Handled}
+use Rattle.sheet.proofs.Handled.{edition-handled}
 use Rattle.sheet.proofs.reader.read.Statement.{statement}
 use Rattle.sheet.proofs.reader.read.Tie as tie
 
@@ -33,8 +35,8 @@ promised s bytes v answer e n l =
     (answer, (edition, (line, answer-again s bytes answer edition line)))
 
 module _ (s : List ℕ) (E : Edition) (same : E ≡ editionOf s) where
-  own-holds : Holds E
-  own-holds = rw same (edition-holds s)
+  own-handled : Handled E
+  own-handled = rw same (edition-handled s)
 
   own-frame : {o : Outcome} → o ≡ outcome (frameChecks E s) → o ≡ outcome (frameChecks (editionOf s) s)
   own-frame e = e ∙ ap (λ (E : Edition). outcome (frameChecks E s)) same
@@ -60,10 +62,10 @@ read-edition-requires : tie.Need-read-edition-requires
 read-edition-requires c κs = search needs
 
 read-head-requires : tie.Need-read-head-requires
-read-head-requires c κs = (own-holds _ _ (c .read-edition .ensures), search needs)
+read-head-requires c κs = (own-handled _ _ (c .read-edition .ensures), search needs)
 
 check-frame-requires : tie.Need-check-frame-requires
-check-frame-requires c κs = (own-holds _ _ (c .before .read-edition .ensures), search needs, search needs)
+check-frame-requires c κs = (own-handled _ _ (c .before .read-edition .ensures), search needs, search needs)
 
 enum-told : tie.Need-enum-told
 enum-told c = search needs
@@ -86,7 +88,7 @@ returns-2 c =
 
 read-line-requires : tie.Need-read-line-requires
 read-line-requires c κs =
-    (own-holds _ _ (c .before .before .before .before .read-edition .ensures), sym (c .before .before .check-frame .ensures) ∙ ap outcomeOf (c .enum-told .given .1), c .before .before .before .read-head .ensures)
+    (own-handled _ _ (c .before .before .before .before .read-edition .ensures), sym (c .before .before .check-frame .ensures) ∙ ap outcomeOf (c .enum-told .given .1), c .before .before .before .read-head .ensures)
 
 check-fields-requires : tie.Need-check-fields-requires
 check-fields-requires c κs = search needs

@@ -5,10 +5,11 @@ use native.Mathlib.Omega.{arith}
 use borrow.Author.Needs.{needs}
 use lib.ListN.{length}
 use Rattle.packed_sheet.specs.declared.Head.{Head}
-use Rattle.packed_sheet.specs.Layout.{Holds, bitCount}
+use Rattle.packed_sheet.specs.Layout.{bitCount}
 use Rattle.packed_sheet.specs.Reading.{countOf}
 use Rattle.packed_sheet.proofs.Frames.{framed}
 use Rattle.packed_sheet.proofs.LineSteps.{lineTo, line-begun, entry-read, last-read}
+use Rattle.sheet.specs.Handled.{Handled}
 use Rattle.sheet.proofs.reader.read_line.Statement.{statement}
 use Rattle.sheet.proofs.reader.read_line.Tie as tie
 
@@ -19,7 +20,7 @@ Inv-loop E sheet n line₀ i₀ line i =
     × (bitCount E n ≤ 8 * length sheet)
     × (n ≡ countOf E sheet)
     × (line ≡ lineTo E sheet i i)
-    × Holds E
+    × Handled E
 
 abbrev μ-loop : tie.MeasureT-loop
 μ-loop E sheet n line₀ i₀ line i = n - i

@@ -51,7 +51,7 @@ put-requires c κs =
     let few : start .args .distance < 2 ^ 32 = omega (arith, start .pre .0 .2, distance-fits line (in-range start) (line .count) (omega arith)) in
     let end = c .before .join .ensures .1 few (omega (arith, width))
     ∙ (λ i. start .pre .0 .2 i * 2 ^ width i + 0)
-    ∙ last-group E (start .pre .0 .0) line (in-range start)
+    ∙ last-group E (start .pre .0 .0 .holds) line (in-range start)
     ∙ (λ i. bitsAt s (sym at i) (distanceWidth + sym width i)) in
     ((start .pre .1 .0, start .pre .1 .1), (omega (arith, width), omega (arith, at, width, sheet-length E line), end))
 

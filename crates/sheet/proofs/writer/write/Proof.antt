@@ -12,18 +12,20 @@ use Rattle.line.specs.declared.Line.{Line}
 use Rattle.line.specs.Checks.{fieldChecks}
 use Rattle.line.proofs.InRange.{line-in-range}
 use Rattle.packed_sheet.specs.declared.Edition.{Edition}
-use Rattle.packed_sheet.specs.Layout.{numbered, Holds, byteCount}
+use Rattle.packed_sheet.specs.Layout.{numbered, byteCount}
 use Rattle.packed_sheet.specs.Writing.{sheetOf, writeChecks, sheetIn}
 use Rattle.packed_sheet.specs.EachStore.{Stores}
 use Rattle.packed_sheet.proofs.WaysOut.{sheet-length}
 use Rattle.packed_sheet.proofs.EachStore.{whole-sheet}
-use Rattle.packed_sheet.proofs.Editions.{numbered-holds, told-fields}
+use Rattle.packed_sheet.proofs.Editions.{told-fields}
+use Rattle.sheet.specs.Handled.{Handled}
+use Rattle.sheet.proofs.Handled.{numbered-handled}
 use Rattle.sheet.proofs.writer.write.Statement.{statement}
 use Rattle.sheet.proofs.writer.write.Tie as tie
 
 module _ (number : ℕ) (line : Line) (E : Edition) (same : E ≡ numbered number) where
-  holds : Holds E
-  holds = rw same (numbered-holds number)
+  handled : Handled E
+  handled = rw same (numbered-handled number)
 
   fields : outcome (writeChecks number line) ≡ passed → outcome (fieldChecks (E .greatest) line) ≡ passed
   fields e = rw same (told-fields number line e)
@@ -55,7 +57,7 @@ byte-count-requires c κs =
     let start = c .before .before .before .before .before in
     let same = c .before .before .before .edition-numbered .ensures in
     let checked = sym (c .before .before .check-told .ensures) ∙ ap outcomeOf (c .enum-told .given .1) in
-    (omega (arith, few (start .args .edition) (start .args .line) _ same checked), holds (start .args .edition) (start .args .line) _ same .narrow)
+    (omega (arith, few (start .args .edition) (start .args .line) _ same checked), handled (start .args .edition) (start .args .line) _ same .narrow)
 
 returns : tie.Need-returns
 unfolding sheetIn
@@ -74,7 +76,7 @@ write-sheet-requires c κs =
     let line = start .args .line in
     let same = c .before .before .before .before .before .before .edition-numbered .ensures in
     let checked = sym (c .before .before .before .before .before .check-told .ensures) ∙ ap outcomeOf (c .before .before .before .enum-told .given .1) in
-    ((holds number line _ same, fields number line _ same checked), omega (arith, c .before .before .byte-count .ensures, c .before .if1 .left))
+    ((handled number line _ same, fields number line _ same checked), omega (arith, c .before .before .byte-count .ensures, c .before .if1 .left))
 
 returns-2 : tie.Need-returns-2
 unfolding sheetIn

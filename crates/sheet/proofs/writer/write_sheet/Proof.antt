@@ -40,7 +40,7 @@ cast-head-bits : tie.Need-cast-head-bits Inv-loop μ-loop
 cast-head-bits c = omega (arith, in-range (c .before) .few)
 
 head-bits-requires : tie.Need-head-bits-requires Inv-loop μ-loop
-head-bits-requires c κs = (c .before .pre .0 .0, head-fits _ _ (in-range (c .before)) (c .before .pre .0 .0))
+head-bits-requires c κs = (c .before .pre .0 .0, head-fits _ _ (in-range (c .before)) (c .before .pre .0 .0 .holds))
 
 add-distance : tie.Need-add-distance Inv-loop μ-loop
 add-distance c = omega arith
@@ -51,7 +51,7 @@ loop-holds c =
     let E = start .args .edition in
     let line = start .args .t2 in
     let width : total (headWidths E) ≡ 22 + E .width = omega arith in
-    let head = c .before .head-bits .ensures ∙ head-group E (start .pre .0 .0) line (in-range start) ∙ ap (bitsAt (sheetOf E line) 0) width in (
+    let head = c .before .head-bits .ensures ∙ head-group E (start .pre .0 .0 .holds) line (in-range start) ∙ ap (bitsAt (sheetOf E line) 0) width in (
       omega arith,
       in-range start .few,
       omega arith,
@@ -85,7 +85,7 @@ put-requires c κs =
     let E = start .args .edition in
     let line = start .args .t2 in
     let loop = c .before .before .before .before .before .before .loop in
-    let turn = c .before .before .turn-bits .ensures ∙ turn-group E (start .pre .0 .0) line (in-range start) (loop .i) (omega arith) in
+    let turn = c .before .before .turn-bits .ensures ∙ turn-group E (start .pre .0 .0 .holds) line (in-range start) (loop .i) (omega arith) in
     ((loop .inv .4, loop .inv .5), (omega arith, omega (arith, sheet-length E line, loop .inv), turn ∙ ap (λ (n : ℕ). bitsAt (sheetOf E line) n 45) (sym (loop .inv .2))))
 
 put-requires-2 : tie.Need-put-requires-2 Inv-loop μ-loop
@@ -98,7 +98,7 @@ put-requires-2 c κs =
     let below : loop .i < line .count = c .before .before .before .before .before .before .before .before .before .loop-test .taken in
     let moved : position (turned .result) ≡ position (loop .pen) + 45 = turned .ensures .moved in
     let at : entryAt E (loop .i) + 45 ≡ position (turned .result) = omega (arith, moved, loop .inv) in
-    let size = c .before .before .before .before .before .size-bits .ensures ∙ size-group E (start .pre .0 .0) line (in-range start) (loop .i) below in
+    let size = c .before .before .before .before .before .size-bits .ensures ∙ size-group E (start .pre .0 .0 .holds) line (in-range start) (loop .i) below in
     ((begun-again E line (loop .inv .4) (turned .ensures) (turned .kept .1 .1 .0), turned .ensures .waits), (omega arith, omega (arith, sheet-length E line, at, below), size ∙ ap (λ (n : ℕ). bitsAt (sheetOf E line) n 42) at))
 
 add-i : tie.Need-add-i Inv-loop μ-loop
