@@ -8,7 +8,7 @@ use Rattle.line.specs.declared.Line.{Line}
 use Rattle.bits.specs.Bits.{Bytes}
 use Rattle.packed_sheet.specs.declared.Edition.{Edition}
 use Rattle.packed_sheet.specs.Layout.{numbered}
-use Rattle.packed_sheet.specs.Reading.{readLine, editionOf, readEdition}
+use Rattle.packed_sheet.specs.Reading.{editionOf, readEdition}
 use Rattle.packed_sheet.specs.Writing.{sheetOf}
 use Rattle.packed_sheet.proofs.Editions.{of-both, reported}
 use Rattle.packed_sheet.proofs.RoundTrip.{start-held, read-written}

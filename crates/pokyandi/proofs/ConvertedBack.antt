@@ -1,7 +1,7 @@
 -- What `pokyandi_convert` counted, converted back, is the sheet, as its contract says: from its answer, and what `convert` says. Assumes nothing.
 use mathlib.Core.Path.{_≡_, sym, _∙_, ap, subst}
 use mathlib.Core.List.{List}
-use Prim.Native.Nat.{ℕ, _+_, _*_, _^_, _<_}
+use Prim.Native.Nat.{ℕ, _^_, _<_}
 use native.Mathlib.Omega.{arith}
 use lib.ListN.{take}
 use Rattle.refusals.specs.Filling.{FillReply, filled, unfilled}

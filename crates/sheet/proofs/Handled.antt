@@ -2,7 +2,7 @@
 use mathlib.Core.List.{List}
 use Prim.Native.Nat.{ℕ}
 use native.Mathlib.Omega.{arith}
-use Rattle.packed_sheet.specs.Layout.{firstEdition, secondEdition, numbered}
+use Rattle.packed_sheet.specs.Layout.{numbered}
 use Rattle.packed_sheet.specs.Reading.{editionOf}
 use Rattle.packed_sheet.proofs.Editions.{of-both, numbered-holds}
 use Rattle.sheet.specs.Handled.{Handled}
