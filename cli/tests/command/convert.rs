@@ -288,7 +288,7 @@ fn an_interrupted_run_is_started_again() {
     while fs::read(&paths[STOP - 1]).unwrap() != second[STOP - 1] {
         sleep(Duration::from_millis(1));
     }
-    interrupt(child.id());
+    assert!(interrupt(child.id()));
     assert_eq!(child.wait().unwrap().code(), None, "the signal ends it");
     fs::remove_file(&paths[STOP]).unwrap();
     fs::write(&paths[STOP], &sheets[STOP]).unwrap();
@@ -303,11 +303,12 @@ fn an_interrupted_run_is_started_again() {
     assert_eq!(bytes_of(&paths), second);
 }
 
-fn interrupt(process: u32) {
-    let sent = Command::new("kill")
-        .args(["-INT", &process.to_string()])
-        .status();
-    assert!(sent.unwrap().success());
+/// Sends SIGTERM: where tests run in the background, SIGINT is ignored. Tells whether
+/// there was a process.
+fn interrupt(process: u32) -> bool {
+    let mut kill = Command::new("kill");
+    kill.args(["-TERM", &process.to_string()]);
+    kill.stderr(Stdio::null()).status().unwrap().success()
 }
 
 #[test]
@@ -325,10 +326,7 @@ fn an_interruption_at_any_moment_leaves_every_sheet_whole() {
             .unwrap();
         sleep(Duration::from_millis(2 * delay));
         // It may be done already.
-        let _ = Command::new("kill")
-            .args(["-TERM", &child.id().to_string()])
-            .stderr(Stdio::null())
-            .status();
+        interrupt(child.id());
         child.wait().unwrap();
         for (bytes, sheet) in bytes_of(&paths).iter().zip(&sheets) {
             assert!(bytes == sheet || *bytes == converted(sheet, 2).unwrap());
