@@ -9,7 +9,7 @@ use lib.Signed.{_≤ℤ_}
 use Rattle.line.specs.Ranges.{CurveInRange}
 use Rattle.numbers.specs.Fractions.{Fraction, whole, _⊖_, _⊗_}
 use Rattle.accuracy.specs.ExactElements.{documentTerms}
-use Rattle.accuracy.specs.Accuracy.{Within, ElementsWithin}
+use Rattle.accuracy.specs.Accuracy.{Within, spiralTolerance, ElementsWithin}
 use Rattle.accuracy.proofs.Parts.{plus, minus, plus-times, minus-times, times-plus, times-minus, difference-parts, le-parts}
 use Rattle.accuracy.proofs.Nearness.{Near, loosen}
 use Rattle.accuracy.proofs.NearElements.{near-X, near-Y, near-k, near-p, near-D}
@@ -48,8 +48,8 @@ within {q} {v} e n f g =
 pub elements-within : (n A R L : ℕ) → 7 ≤ n → CurveInRange A R L → ElementsWithin n A R L
 elements-within n A R L seven ok =
     record {
-      X = within 2 (near-X A R L ok) (lit≤ tt) (lit≤ tt);
-      Y = within 2 (near-Y A R L ok) (lit≤ tt) (lit≤ tt);
+      X = within spiralTolerance (near-X A R L ok) (lit≤ tt) (lit≤ tt);
+      Y = within spiralTolerance (near-Y A R L ok) (lit≤ tt) (lit≤ tt);
       k = within 30 (near-k A R L ok n seven) (lit≤ tt) (lit≤ tt);
       p = within 30 (near-p A R L ok n seven) (lit≤ tt) (lit≤ tt);
       D = within 6 (near-D A R L ok) (lit≤ tt) (lit≤ tt);

@@ -14,7 +14,7 @@ use Rattle.refusals.specs.Filling.{filled, unfilled, withRoom, fill}
 use Rattle.line.specs.declared.Curve.{Curve}
 use Rattle.line.specs.declared.Line.{Line}
 use Rattle.line.specs.Checks.{startCheck, headChecks, distanceCheck, curveChecks, bodyChecks, fieldChecks}
-use Rattle.elements.specs.WorkingRule.{rounded, fullAngle, halfAngle, spiralAngle, term, alternating, sineOf, cosineOf, t2, t3, t4, unitX, unitY, spiralX, spiralY, centreOf, shiftOf, arcOf, tanOf, tangentOf}
+use Rattle.elements.specs.WorkingRule.{rounded, fullAngle, halfAngle, spiralAngle, term, alternating, sineOf, cosineOf, t2, t3, t4, t6, t5, unitX, unitY, spiralX, spiralY, centreOf, shiftOf, arcOf, tanOf, tangentOf}
 use Rattle.elements.specs.Answer.{arcCheck}
 use Rattle.elements.specs.SpiralPoint.{partTo, angleTo, offsetX, offsetY}
 use Rattle.line.specs.Speeds.{underSpeed}
@@ -96,17 +96,24 @@ pub record Examples : Type 0 where
   -- 1 − 1/3! + 1/5! − .. − 1/15!, and 1 − 1/2! + 1/4! − .. − 1/14!
   pub sine-of-1 : exactSine documentTerms (nat 1) ≈ nat 1100370038249 ⊘ 1307674368000
   pub cosine-of-1 : exactCosine documentTerms (nat 1) ≈ nat 47102631757 ⊘ 87178291200
-  pub case-1-X : Billionths 39986940749996 (exactX 350000 40000)
-  pub case-1-Y : Billionths 761727058170 (exactY 350000 40000)
+  pub case-1-X : Billionths 39986940749847 (exactX 350000 40000)
+  pub case-1-Y : Billionths 761727076632 (exactY 350000 40000)
+  -- document 02, N7: a spiral as long as its radius, and a point of it
+  pub ramp-X : Billionths 487643841257122 (exactX 500000 500000)
+  pub ramp-Y : Billionths 81857075216450 (exactY 500000 500000)
+  pub ramp-x : Billionths 395923372187671 (exactOffsetX 500000 500000 400000000)
+  pub ramp-y : Billionths 42355607277160 (exactOffsetY 500000 500000 400000000)
   pub half-way-x : Billionths 19999591840591 (exactOffsetX 350000 40000 20000000)
-  pub half-way-y : Billionths 95236706927 (exactOffsetY 350000 40000 20000000)
-  -- A point whose y is 1.220 µm short of the exact one.
-  pub short-offset : OffsetsWithin 502362 486704 486235173
-  pub case-1-k : Billionths 19997823326838 (exactCentre documentTerms 350000 40000)
-  pub case-1-p : Billionths 190453960586 (exactShift documentTerms 350000 40000)
+  pub half-way-y : Billionths 95236706936 (exactOffsetY 350000 40000 20000000)
+  -- A point whose y is 1.600 µm short of the exact one.
+  pub short-offset : OffsetsWithin 500904 482476 480741324
+  pub case-1-k : Billionths 19997823326689 (exactCentre documentTerms 350000 40000)
+  pub case-1-p : Billionths 190453979048 (exactShift documentTerms 350000 40000)
   pub case-1-D : Billionths 261638467230644 (exactArc 177764 350000 40000)
-  pub case-1-TT : Billionths 180989278931612 (exactTangent documentTerms 177764 350000 40000)
+  pub case-1-TT : Billionths 180989278939951 (exactTangent documentTerms 177764 350000 40000)
   pub greatest : ElementsWithin documentTerms 432000 500000 500000
+  -- a curve whose X is 1.441 µm over the exact one, and whose Y is 1.296 µm short of it
+  pub far-X-and-Y : ElementsWithin documentTerms 432000 510068 497247
   pub far-accepted : stationsIn farLine (replicate 5 0) .reply ≡ filled 5
   pub far-TS : Within (tolerance 1) (pointsAt farLine 0 .TS) (exactPointsAt documentTerms farLine 0 .TS)
   pub far-end : Within (tolerance 1) (endOf farLine) (exactEnd documentTerms farLine)
@@ -124,13 +131,17 @@ pub record Examples : Type 0 where
   pub case-7-arc : exactArcAt (shortArc 23573) 0 ≺ tenths refusedArc
 
 pub examples : Examples
-unfolding firstOf startCheck headChecks distanceCheck curveChecks bodyChecks fieldChecks arcCheck underSpeed frictionAt leastSpiralAt radiusServes spiralServes designChecks designChecksAt straightCheck alignmentChecks withRoom fill stationsIn rounded fullAngle halfAngle spiralAngle term alternating sineOf cosineOf t2 t3 t4 unitX unitY spiralX spiralY centreOf shiftOf arcOf tanOf tangentOf spiralAt arcAt tangentAt tangentBefore tangentAfter straightAt formerST pointsAt endOf curveStations stationsOf stationRow whole _⊕_ _⊖_ _⊗_ _↑_ _⊘_ over ratio exactPi exactAngle exactHalfAngle exactSpiralAngle alternatingSum factorial exactSine exactCosine exactX exactY exactCentre exactShift exactArc exactTan exactTangent exactSpiralAt exactArcAt exactTangentAt exactTangentBefore exactTangentAfter exactStraightAt exactFormerST exactPointsAt exactEnd exactAngleTo exactOffsetX exactOffsetY partTo angleTo offsetX offsetY
+unfolding firstOf startCheck headChecks distanceCheck curveChecks bodyChecks fieldChecks arcCheck underSpeed frictionAt leastSpiralAt radiusServes spiralServes designChecks designChecksAt straightCheck alignmentChecks withRoom fill stationsIn rounded fullAngle halfAngle spiralAngle term alternating sineOf cosineOf t2 t3 t4 t6 t5 unitX unitY spiralX spiralY centreOf shiftOf arcOf tanOf tangentOf spiralAt arcAt tangentAt tangentBefore tangentAfter straightAt formerST pointsAt endOf curveStations stationsOf stationRow whole _⊕_ _⊖_ _⊗_ _↑_ _⊘_ over ratio exactPi exactAngle exactHalfAngle exactSpiralAngle alternatingSum factorial exactSine exactCosine exactX exactY exactCentre exactShift exactArc exactTan exactTangent exactSpiralAt exactArcAt exactTangentAt exactTangentBefore exactTangentAfter exactStraightAt exactFormerST exactPointsAt exactEnd exactAngleTo exactOffsetX exactOffsetY partTo angleTo offsetX offsetY
 examples =
     record {
       sine-of-1 = equal tt tt;
       cosine-of-1 = equal tt tt;
       case-1-X = decimals tt tt;
       case-1-Y = decimals tt tt;
+      ramp-X = decimals tt tt;
+      ramp-Y = decimals tt tt;
+      ramp-x = decimals tt tt;
+      ramp-y = decimals tt tt;
       half-way-x = decimals tt tt;
       half-way-y = decimals tt tt;
       short-offset = record { x = near tt tt; y = near tt tt };
@@ -139,6 +150,7 @@ examples =
       case-1-D = decimals tt tt;
       case-1-TT = decimals tt tt;
       greatest = record { X = near tt tt; Y = near tt tt; k = near tt tt; p = near tt tt; D = near tt tt; TT = near tt tt };
+      far-X-and-Y = record { X = near tt tt; Y = near tt tt; k = near tt tt; p = near tt tt; D = near tt tt; TT = near tt tt };
       far-accepted = refl;
       far-TS = near tt tt;
       far-end = near tt tt;

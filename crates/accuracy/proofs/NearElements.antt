@@ -29,13 +29,13 @@ near-length k x′ y′ e f h = near-rounded 1000000 x′ y′ (lit< tt) e f (ne
 module _ (A R L : ℕ) (ok : CurveInRange A R L) where
   -- ---- the elements
 
-  pub near-X : Near 1000 (spiralX R L) (exactX R L) 1005 1101
+  pub near-X : Near 1000 (spiralX R L) (exactX R L) 1005 1601
   unfolding spiralX exactX
-  near-X = near-length L 1005 1101 (omega (arith, ok .L-most)) (omega (arith, ok .L-most)) (near-unit-x (exactSpiralAngle R L) (spiral A R L ok))
+  near-X = near-length L 1005 1601 (omega (arith, ok .L-most)) (omega (arith, ok .L-most)) (near-unit-x (exactSpiralAngle R L) (spiral A R L ok))
 
-  pub near-Y : Near 1000 (spiralY R L) (exactY R L) 1167 1027
+  pub near-Y : Near 1000 (spiralY R L) (exactY R L) 1668 1027
   unfolding spiralY exactY
-  near-Y = near-length L 1167 1027 (omega (arith, ok .L-most)) (omega (arith, ok .L-most)) (near-unit-y (exactSpiralAngle R L) (spiral A R L ok))
+  near-Y = near-length L 1668 1027 (omega (arith, ok .L-most)) (omega (arith, ok .L-most)) (near-unit-y (exactSpiralAngle R L) (spiral A R L ok))
 
   pub near-D : Near 1000 (arcOf A R L) (exactArc A R L) 5500 1870
   unfolding arcOf exactArc
@@ -45,13 +45,13 @@ module _ (A R L : ℕ) (ok : CurveInRange A R L) where
       (near-nat 1000 L)
 
   module _ (n : ℕ) (seven : 7 ≤ n) where
-    pub near-k : Near 1000 (centreOf R L) (exactCentre n R L) 17725 21846
+    pub near-k : Near 1000 (centreOf R L) (exactCentre n R L) 17725 22346
     unfolding centreOf exactCentre
     near-k =
         near-difference near-X
         (near-length R 20745 16720 (omega (arith, ok .R-most)) (omega (arith, ok .R-most)) (near-spiral-sine A R L ok n seven))
 
-    pub near-p : Near 1000 (shiftOf R L) (exactShift n R L) 17142 21722
+    pub near-p : Near 1000 (shiftOf R L) (exactShift n R L) 17643 21722
     unfolding shiftOf exactShift
     near-p =
         near-difference near-Y

@@ -18,14 +18,14 @@ use Rattle.accuracy.proofs.Tangent.{near-TT}
 
 -- The error of a tangent, short and over, and of one that is 0 at an end of the line.
 abbrev shortTangent : ℕ
-shortTangent = 233770
+shortTangent = 234931
 
 abbrev overTangent : ℕ
-overTangent = 211325
+overTangent = 211825
 
 -- The error of a point of the curve at entry i.
 abbrev pub pointError : ℕ → ℕ
-pointError i = 474000 * i + 239270
+pointError i = 476000 * i + 240431
 
 module _ (n : ℕ) (seven : 7 ≤ n) (line : Line) (ok : LineInRange line) where
   -- ---- L, D, TT and straights
@@ -67,22 +67,22 @@ module _ (n : ℕ) (seven : 7 ≤ n) (line : Line) (ok : LineInRange line) where
   unfolding straightAt exactStraightAt
   straight-from i before after = near-difference (near-difference (near-nat 1000 (distanceAt line i)) before) after
 
-  pub near-straight : (i : ℕ) → i ≤ line .count → Near 1000 (straightAt line i) (exactStraightAt n line i) 422650 467540
+  pub near-straight : (i : ℕ) → i ≤ line .count → Near 1000 (straightAt line i) (exactStraightAt n line i) 423650 469862
   near-straight i h = go (decLt i (line .count))
     where
-      go : Dec (i < line .count) → Near 1000 (straightAt line i) (exactStraightAt n line i) 422650 467540
+      go : Dec (i < line .count) → Near 1000 (straightAt line i) (exactStraightAt n line i) 423650 469862
       go (yes k) = straight-from i (near-before i h) (near-after-inside i k)
       go (no k) = loosen (lit≤ tt) (lit≤ tt) (straight-from i (near-before i h) (near-after-end i (omega arith)))
 
   -- ---- stations
 
-  -- The ST before distance i and the tangent before it, with errors that stay below 474 µm a curve together.
+  -- The ST before distance i and the tangent before it, with errors that stay below 476 µm a curve together.
   record Reached (i : ℕ) : Type 0 where
     station-error : ℕ
     tangent-error : ℕ
     station : Near 1000 (formerST line i) (exactFormerST n line i) station-error station-error
     tangent : Near 1000 (tangentBefore line i) (exactTangentBefore n line i) tangent-error tangent-error
-    few : station-error + tangent-error ≤ 474000 * i
+    few : station-error + tangent-error ≤ 476000 * i
 
   -- The four points of the curve at entry i.
   pub record NearPoints (i : ℕ) : Type 0 where
@@ -128,7 +128,7 @@ module _ (n : ℕ) (seven : 7 ≤ n) (line : Line) (ok : LineInRange line) where
   pub near-points : (i : ℕ) → i < line .count → NearPoints i
   near-points i h = points-from i h (reached i (omega arith))
 
-  pub near-end : Near 1000 (endOf line) (exactEnd n line) (474000 * line .count) (474000 * line .count)
+  pub near-end : Near 1000 (endOf line) (exactEnd n line) (476000 * line .count) (476000 * line .count)
   unfolding endOf exactEnd
   near-end =
       let r = reached (line .count) (omega arith) in

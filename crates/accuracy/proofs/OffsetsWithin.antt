@@ -33,7 +33,7 @@ use Rattle.accuracy.proofs.ElementsWithin.{within}
 
 -- More than any offset differs either way, in thousandths of a µm.
 abbrev pub offsetError : ℕ
-offsetError = 1584
+offsetError = 2085
 
 -- Both offsets are that near.
 pub record OffsetsNear (R L l : ℕ) : Type 0 where
@@ -135,13 +135,13 @@ module _ (A R L l : ℕ) (ok : CurveInRange A R L) (above : zero < L) (on : l �
   short : l ≤ 500000000
   short = omega (arith, ok .L-most)
 
-  near-offset-x : Near 1000 (offsetX R L l) (exactOffsetX R L l) 1008 1226
+  near-offset-x : Near 1000 (offsetX R L l) (exactOffsetX R L l) 1008 1726
   unfolding offsetX exactOffsetX
-  near-offset-x = near-times 1008 1226 (omega (arith, short)) (omega (arith, short)) (near-unit-x (exactAngleTo R L l) angle)
+  near-offset-x = near-times 1008 1726 (omega (arith, short)) (omega (arith, short)) (near-unit-x (exactAngleTo R L l) angle)
 
-  near-offset-y : Near 1000 (offsetY R L l) (exactOffsetY R L l) 1584 1050
+  near-offset-y : Near 1000 (offsetY R L l) (exactOffsetY R L l) 2085 1050
   unfolding offsetY exactOffsetY
-  near-offset-y = near-times 1584 1050 (omega (arith, short)) (omega (arith, short)) (near-unit-y (exactAngleTo R L l) angle)
+  near-offset-y = near-times 2085 1050 (omega (arith, short)) (omega (arith, short)) (near-unit-y (exactAngleTo R L l) angle)
 
 -- At the outer end, which is all that an empty spiral has, both are 0.
 near-nothing : (v : Fraction) → Near 1000 (pos 0) (nat 0 ⊗ v ⊘ 1000) 0 0

@@ -98,16 +98,16 @@ module _ (A R L : ℕ) (ok : CurveInRange A R L) (n : ℕ) (seven : 7 ≤ n) whe
   shift : Between (shiftOf R L) 0 83333333
   shift = bounds A R L ok .p
 
-  near-base : Near 1000 (pos (1000 * R + shift .value)) (nat R ⊕ exactShift n R L) 17142 21722
+  near-base : Near 1000 (pos (1000 * R + shift .value)) (nat R ⊕ exactShift n R L) 17643 21722
   near-base =
       near-sum (near-nat 1000 R) (near-value shift (near-p A R L ok n seven))
 
-  pub near-TT : Near 1000 (tangentOf A R L) (exactTangent n A R L) 233770 211325
+  pub near-TT : Near 1000 (tangentOf A R L) (exactTangent n A R L) 234931 211825
   unfolding tangentOf exactTangent exactTan sine cosine
   near-TT =
       rw (shift .same, tan-is)
       (near-sum (near-k A R L ok n seven)
-      (near-rounded scale 216045 189479 (lit< tt) (lit≤ tt) (lit≤ tt)
+      (near-rounded scale 217206 189479 (lit< tt) (lit≤ tt) (lit≤ tt)
       (near-product 5083333333 2318405787 near-base near-tan
       (ratio-sign sine cosine sine-above cosine-above)
       (omega (arith, ok .R-most, shift .high))

@@ -18,10 +18,14 @@ pub record Within (e : ℕ) (q : ℤ) (v : Fraction) : Type 0 where
 
 -- ---- one curve
 
--- "Bounds between rule and clerk: X, Y 2 µm; k, p 30; D 6; TT 300."
+-- "Bounds for X and Y become 3 µm" (document 02, N7)
+abbrev pub spiralTolerance : ℕ
+spiralTolerance = 3
+
+-- "Bounds between rule and clerk: .. k, p 30; D 6; TT 300."
 pub record ElementsWithin (n A R L : ℕ) : Type 0 where
-  pub X : Within 2 (spiralX R L) (exactX R L)
-  pub Y : Within 2 (spiralY R L) (exactY R L)
+  pub X : Within spiralTolerance (spiralX R L) (exactX R L)
+  pub Y : Within spiralTolerance (spiralY R L) (exactY R L)
   pub k : Within 30 (centreOf R L) (exactCentre n R L)
   pub p : Within 30 (shiftOf R L) (exactShift n R L)
   pub D : Within 6 (arcOf A R L) (exactArc A R L)

@@ -1,5 +1,5 @@
--- Document 01's "Clerk's sums" for one curve, sentence by sentence: the exact values, in fractions. The deflection A is in seconds of arc, the
--- radius R and the spiral length L in mm, and so are the elements. n is the number of terms of each series.
+-- Document 01's "Clerk's sums" for one curve, sentence by sentence, with the terms of document 02's N7: the exact values, in fractions. The
+-- deflection A is in seconds of arc, the radius R and the spiral length L in mm, and so are the elements. n is the number of terms of each series.
 use mathlib.Core.Bool.{cond}
 use Prim.Native.Nat.{ℕ, zero, suc, _+_, _*_, _%_}
 use lib.Dec.{eqb}
@@ -43,18 +43,18 @@ exactCosine n v = alternatingSum (λ j. v ↑ (2 * j) ⊘ factorial (2 * j)) n
 abbrev pub documentTerms : ℕ
 documentTerms = 8
 
--- "1 − s²/10 + s⁴/216" and "s/3 − s³/42": the end of the spiral of length one
+-- "1 − s²/10 + s⁴/216" and "s/3 − s³/42", N7: less "s⁶/9360" and with "s⁵/1320": the end of the spiral of length one
 abbrev pub exactUnitX : Fraction → Fraction
-exactUnitX s = nat 1 ⊖ s ↑ 2 ⊘ 10 ⊕ s ↑ 4 ⊘ 216
+exactUnitX s = nat 1 ⊖ s ↑ 2 ⊘ 10 ⊕ s ↑ 4 ⊘ 216 ⊖ s ↑ 6 ⊘ 9360
 
 abbrev pub exactUnitY : Fraction → Fraction
-exactUnitY s = s ⊘ 3 ⊖ s ↑ 3 ⊘ 42
+exactUnitY s = s ⊘ 3 ⊖ s ↑ 3 ⊘ 42 ⊕ s ↑ 5 ⊘ 1320
 
--- "X = L(1 − s²/10 + s⁴/216)"
+-- "X = L(1 − s²/10 + s⁴/216)", N7: "X now loses L × s⁶/9360"
 unfoldable pub exactX : ℕ → ℕ → Fraction
 exactX R L = nat L ⊗ exactUnitX (exactSpiralAngle R L)
 
--- "Y = L(s/3 − s³/42)"
+-- "Y = L(s/3 − s³/42)", N7: "and Y gains L × s⁵/1320"
 unfoldable pub exactY : ℕ → ℕ → Fraction
 exactY R L = nat L ⊗ exactUnitY (exactSpiralAngle R L)
 

@@ -1,10 +1,10 @@
--- Document 01's cases 1 (elements), 6, 7, 8 and 11, points of spirals and turns, from the definitions. Assumes nothing.
+-- Document 01's cases 1 (elements), 6, 7, 8 and 11, document 02's ramp, points of spirals and turns, from the definitions. Assumes nothing.
 use mathlib.Core.Path.{_≡_, refl}
 use Prim.Native.Nat.{ℕ}
 use native.Mathlib.Nat.{mul-zero, zero-div}
 use lib.IntN.{pos, negsuc}
 use Rattle.line.specs.Checks.{curveChecks}
-use Rattle.elements.specs.WorkingRule.{rounded, fullAngle, halfAngle, spiralAngle, term, alternating, sineOf, cosineOf, t2, t3, t4, unitX, unitY, spiralX, spiralY, centreOf, shiftOf, arcOf, tanOf, tangentOf}
+use Rattle.elements.specs.WorkingRule.{rounded, fullAngle, halfAngle, spiralAngle, term, alternating, sineOf, cosineOf, t2, t3, t4, t6, t5, unitX, unitY, spiralX, spiralY, centreOf, shiftOf, arcOf, tanOf, tangentOf}
 use Rattle.refusals.specs.Replying.{Reply, answered, declined, reply}
 use Rattle.elements.specs.Answer.{Values, valuesBy, arcCheck, elementChecks, elementReply}
 use Rattle.elements.specs.SpiralPoint.{partTo, angleTo, offsetX, offsetY, Offsets, offsetsBy, insideCheck, pointChecks, pointReply}
@@ -27,7 +27,7 @@ pub record Examples : Type 0 where
   pub case-8-short : arcOf 1 200000 0 ≡ pos 970
   pub case-8-refused : elementReply 1 200000 0 ≡ declined 14 0
   pub greatest : elementReply 432000 5000000 0 ≡ elements 0 0 0 0 10471975510 8660254040
-  pub widest-spiral : elementReply 432000 500000 500000 ≡ elements 487644676 81845238 247931907 20636518 547197551 1149700809
+  pub widest-spiral : elementReply 432000 500000 500000 ≡ elements 487643841 81857075 247931072 20648355 547197551 1149720476
   pub arc-of-1000 : elementReply 1 206168 0 ≡ elements 0 0 0 0 1000 500
   pub arc-of-999 : elementReply 1 206167 0 ≡ declined 14 0
   -- ---- quotients that are exactly a half: X, Y, the sine's part and the arc; X, the sine's and the cosine's parts and the arc; the arc and TT
@@ -37,23 +37,32 @@ pub record Examples : Type 0 where
   -- ---- quotients just below a half: X, the cosine's part and the arc; Y, the sine's part and TT
   pub below-half-X : elementReply 204466 4622096 296860 ≡ elements 296829387 3177468 148424899 794399 4284927352 2647809653
   pub below-half-Y : elementReply 200915 4680251 486484 ≡ elements 486352613 8426222 243220103 2106755 4072377235 2722909570
-  -- ---- curves where another rounding of a quotient tells: down or up for the nearest, up or the nearest for down
-  pub each-quotient-1 : elementReply 410905 819806 400541 ≡ elements 398157270 32477037 199872780 8136397 1232613926 1478215520
-  pub each-quotient-2 : elementReply 350728 611817 451315 ≡ elements 445214121 54947268 224638221 13802077 589004755 937071915
-  pub each-quotient-3 : elementReply 307603 687975 479227 ≡ elements 473446403 55154285 238647975 13847127 546751099 886784415
+  -- ---- curves where another rounding of a quotient tells, down or up for the nearest, up or the nearest for down, and so do t5 of t3 × t2 and t6 of
+  -- t5 × t or t3 × t3
+  pub each-quotient-1 : elementReply 390074 864886 495081 ≡ elements 491040790 46957010 246866110 11773679 1140532693 1461354362
+  pub each-quotient-2 : elementReply 294910 574588 454156 ≡ elements 447113906 59163579 225900915 14873780 367369253 737585157
+  pub each-quotient-3 : elementReply 361976 822825 498957 ≡ elements 494389632 50097353 248715975 12565569 945026138 1254036070
+  pub each-quotient-4 : elementReply 378045 644498 454014 ≡ elements 448413714 52834224 226071471 13267294 727230880 1083481531
+  pub each-quotient-5 : elementReply 400036 515841 481562 ≡ elements 471175142 73768842 239042852 18586649 518875127 1018403232
+  -- ---- document 02, N7: a ramp whose spirals are as long as its radius, as elements of the definition; it has no arc
+  pub ramp : valuesBy 200000 500000 500000
+      ≡ record { X = pos 487643841; Y = pos 81857075; k = pos 247931072; p = pos 20648355; D = negsuc 15186318; TT = pos 522179793 }
+  pub ramp-refused : elementReply 200000 500000 500000 ≡ declined 14 0
   -- ---- refusals
   pub deflection-refused : elementReply 0 19999 500001 ≡ declined 9 0
   pub radius-refused : elementReply 1 19999 500001 ≡ declined 10 0
   pub spiral-refused : elementReply 1 20000 20001 ≡ declined 11 0
-  -- ---- points of spirals: their ends and middle; both offsets exactly a half; x, and y, just below; one where another rounding of l over L, the
-  -- square, the angle or the offsets tells
+  -- ---- points of spirals: their ends and middle; both offsets exactly a half; x, and y, just below; points where another rounding of a quotient
+  -- tells
   pub half-way : pointReply 350000 40000 20000000 ≡ offsets 19999592 95237
   pub inner-end : pointReply 350000 40000 40000000 ≡ offsets 39986941 761727
-  pub longest : pointReply 500000 500000 500000000 ≡ offsets 487644676 81845238
+  pub longest : pointReply 500000 500000 500000000 ≡ offsets 487643841 81857075
   pub half-offsets : pointReply 4375000 500000 500000000 ≡ offsets 499836760 9521589
   pub below-half-x : pointReply 1531573 334311 163775641 ≡ offsets 163764405 1429839
   pub below-half-y : pointReply 4426522 51686 9371139 ≡ offsets 9371139 599
-  pub each-point-quotient : pointReply 511111 499999 439235599 ≡ offsets 433018545 54703408
+  pub each-point-quotient-1 : pointReply 548897 494447 479135726 ≡ offsets 470635803 66690060
+  pub each-point-quotient-2 : pointReply 524021 496328 494982008 ≡ offsets 484112959 76491240
+  pub each-point-quotient-3 : pointReply 503784 499349 491343704 ≡ offsets 480150857 77305047
   pub no-spiral : pointReply 350000 0 0 ≡ offsets 0 0
   pub beyond-spiral : pointReply 350000 40000 40000001 ≡ declined 17 0
   pub beyond-no-spiral : pointReply 350000 0 1 ≡ declined 17 0
@@ -70,7 +79,7 @@ pub record Examples : Type 0 where
   pub cosine-beyond : cosineOf (turnAngle 216002) ≡ pos 499995800
 
 pub examples : Examples
-unfolding curveChecks rounded fullAngle halfAngle spiralAngle term alternating sineOf cosineOf t2 t3 t4 unitX unitY spiralX spiralY centreOf shiftOf arcOf tanOf tangentOf valuesBy arcCheck elementChecks elementReply reply partTo angleTo offsetX offsetY offsetsBy insideCheck pointChecks pointReply turnAngle
+unfolding curveChecks rounded fullAngle halfAngle spiralAngle term alternating sineOf cosineOf t2 t3 t4 t6 t5 unitX unitY spiralX spiralY centreOf shiftOf arcOf tanOf tangentOf valuesBy arcCheck elementChecks elementReply reply partTo angleTo offsetX offsetY offsetsBy insideCheck pointChecks pointReply turnAngle
 examples =
     record {
       case-1 = refl;
@@ -92,6 +101,10 @@ examples =
       each-quotient-1 = refl;
       each-quotient-2 = refl;
       each-quotient-3 = refl;
+      each-quotient-4 = refl;
+      each-quotient-5 = refl;
+      ramp = refl;
+      ramp-refused = refl;
       deflection-refused = refl;
       radius-refused = refl;
       spiral-refused = refl;
@@ -101,7 +114,9 @@ examples =
       half-offsets = refl;
       below-half-x = refl;
       below-half-y = refl;
-      each-point-quotient = refl;
+      each-point-quotient-1 = refl;
+      each-point-quotient-2 = refl;
+      each-point-quotient-3 = refl;
       no-spiral = refl;
       beyond-spiral = refl;
       beyond-no-spiral = refl;
@@ -125,7 +140,7 @@ pub record WithoutSpirals (R : ℕ) : Type 0 where
   pub p : shiftOf R 0 ≡ pos 0
 
 pub without-spirals : (R : ℕ) → WithoutSpirals R
-unfolding rounded spiralAngle term alternating sineOf cosineOf t2 t3 t4 unitX unitY spiralX spiralY centreOf shiftOf
+unfolding rounded spiralAngle term alternating sineOf cosineOf t2 t3 t4 t6 t5 unitX unitY spiralX spiralY centreOf shiftOf
 without-spirals R =
     record {
       X = rw (zero-div R);

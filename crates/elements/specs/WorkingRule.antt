@@ -1,5 +1,6 @@
--- Document 01's "Working rule" for one curve, sentence by sentence, with the rounding of document 02's N4. Angles and ratios are whole numbers at
--- scale 10⁹; the deflection A is in seconds of arc, the radius R and the spiral length L in mm; the elements are in µm. Differences may be negative.
+-- Document 01's "Working rule" for one curve, sentence by sentence, with the rounding of document 02's N4 and the terms of its N7. Angles and
+-- ratios are whole numbers at scale 10⁹; the deflection A is in seconds of arc, the radius R and the spiral length L in mm; the elements are in
+-- µm. Differences may be negative.
 use mathlib.Core.Bool.{cond}
 use Prim.Native.Nat.{ℕ, zero, suc, _+_, _-_, _*_, _/_, _%_}
 use lib.Dec.{eqb}
@@ -63,13 +64,20 @@ t3 t = t2 t * t / scale
 unfoldable pub t4 : ℕ → ℕ
 t4 t = t2 t * t2 t / scale
 
--- "x = 10⁹ − t2/10 + t4/216.": the end of the spiral of length one, along its tangent
-unfoldable pub unitX : ℕ → ℤ
-unitX t = pos scale -ℤ pos (t2 t / 10) +ℤ pos (t4 t / 216)
+-- "with t6 = t4 × t2 / 10⁹ and t5 = t4 × t / 10⁹" (document 02, N7)
+unfoldable pub t6 : ℕ → ℕ
+t6 t = t4 t * t2 t / scale
 
--- "y = t/3 − t3/42.": and square to its tangent
+unfoldable pub t5 : ℕ → ℕ
+t5 t = t4 t * t / scale
+
+-- "x = 10⁹ − t2/10 + t4/216.", N7: "x loses t6/9360": the end of the spiral of length one, along its tangent
+unfoldable pub unitX : ℕ → ℤ
+unitX t = pos scale -ℤ pos (t2 t / 10) +ℤ pos (t4 t / 216) -ℤ pos (t6 t / 9360)
+
+-- "y = t/3 − t3/42.", N7: "y gains t5/1320": and square to its tangent
 unfoldable pub unitY : ℕ → ℤ
-unitY t = pos (t / 3) -ℤ pos (t3 t / 42)
+unitY t = pos (t / 3) -ℤ pos (t3 t / 42) +ℤ pos (t5 t / 1320)
 
 -- "X = L × x / 10⁶": the end of the spiral along the tangent
 unfoldable pub spiralX : ℕ → ℕ → ℤ

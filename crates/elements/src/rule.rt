@@ -82,7 +82,8 @@ pub(crate) fn unit_x(t: u64) -> u64
 {
     let t2 = angle_product(t, t);
     let t4 = angle_product(t2, t2);
-    SCALE - t2 / 10 + t4 / 216
+    let t6 = angle_product(t4, t2);
+    SCALE - t2 / 10 + t4 / 216 - t6 / 9360
 }
 
 // y of the spiral of length one.
@@ -92,7 +93,9 @@ pub(crate) fn unit_y(t: u64) -> u64
 {
     let t2 = angle_product(t, t);
     let t3 = angle_product(t2, t);
-    t / 3 - t3 / 42
+    let t4 = angle_product(t2, t2);
+    let t5 = angle_product(t4, t);
+    t / 3 - t3 / 42 + t5 / 1320
 }
 
 // X and k, or Y and p: the spiral length times a ratio, and that less the radius times its part.

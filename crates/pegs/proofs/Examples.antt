@@ -1,5 +1,5 @@
--- Pegs of document 01's case 1, of lines that begin at 1,000 mm with a curve to the left and another behind it, and at an exact half, from the
--- definitions. Assumes nothing.
+-- Pegs of document 01's case 1, of lines that begin at 1,000 mm with a curve to the left and another behind it, at an exact half, and of a ramp,
+-- from the definitions. Assumes nothing.
 use mathlib.Core.Path.{_≡_, refl}
 use mathlib.Core.Bool.{Bool, true, false}
 use mathlib.Core.List.{[], _∷_, map}
@@ -12,7 +12,7 @@ use Rattle.refusals.specs.Replying.{Reply, answered, declined, reply}
 use Rattle.line.specs.declared.Curve.{Curve}
 use Rattle.line.specs.declared.Line.{Line}
 use Rattle.line.specs.Checks.{startCheck, headChecks, distanceCheck, curveChecks, bodyChecks, fieldChecks}
-use Rattle.elements.specs.WorkingRule.{rounded, fullAngle, halfAngle, spiralAngle, term, alternating, sineOf, cosineOf, t2, t3, t4, unitX, unitY, spiralX, spiralY, centreOf, shiftOf, arcOf, tanOf, tangentOf}
+use Rattle.elements.specs.WorkingRule.{rounded, fullAngle, halfAngle, spiralAngle, term, alternating, sineOf, cosineOf, t2, t3, t4, t6, t5, unitX, unitY, spiralX, spiralY, centreOf, shiftOf, arcOf, tanOf, tangentOf}
 use Rattle.elements.specs.Answer.{arcCheck}
 use Rattle.elements.specs.SpiralPoint.{partTo, angleTo, offsetX, offsetY}
 use Rattle.stationing.specs.declared.ElementKind.{ElementKind}
@@ -64,6 +64,10 @@ three = behind (curve false 100000 400000 50000)
 abbrev halfWay : Line
 halfWay = lineOf 1 (2000000 ∷ 2000000 ∷ []) (curve true 100000 4375000 500000 ∷ [])
 
+-- A ramp to the left whose spirals are as long as its radius.
+abbrev ramp : Line
+ramp = lineOf 1 (500000 ∷ 400000 ∷ []) (curve true 300000 200000 200000 ∷ [])
+
 pub record Examples : Type 0 where
   pub start : pegReply one 0 ≡ plain Straight 0 0
   pub before-TS : pegReply one 319010719 ≡ plain Straight 0 319010719
@@ -92,6 +96,9 @@ pub record Examples : Type 0 where
   pub left-numbers : stationNumbers three 340010720 ≡ pos 1 ∷ pos 1 ∷ pos 20000000 ∷ pos 19999592 ∷ negℤ (pos 95237) ∷ []
   -- ---- a left curve's y is rounded and then negated
   pub left-half : pegReply halfWay 2788695701 ≡ at SpiralOut 1 (pos 500000000) (pos 499836760) (negℤ (pos 9521589))
+  -- ---- the ramp: on the spiral in, and at CS
+  pub ramp-in : pegReply ramp 365492495 ≡ at SpiralIn 1 (pos 150000000) (pos 148817814) (negℤ (pos 13983245))
+  pub ramp-out : pegReply ramp 506380704 ≡ at SpiralOut 1 (pos 200000000) (pos 195057536) (negℤ (pos 32742830))
   -- ---- a line without curves, refused lines, and a peg as numbers
   pub no-curve : fill (pegChecks noCurve 250000000) (stationNumbers noCurve 250000000) (replicate 6 (pos 7)) .reply ≡ filled 5
   pub no-curve-numbers : fill (pegChecks noCurve 250000000) (stationNumbers noCurve 250000000) (replicate 6 (pos 7)) .buffer
@@ -106,7 +113,7 @@ pub record Examples : Type 0 where
       ≡ pos 2 ∷ pos 7 ∷ pos 8 ∷ pos 9 ∷ pos 10 ∷ []
 
 pub examples : Examples
-unfolding firstOf startCheck headChecks distanceCheck curveChecks bodyChecks fieldChecks rounded fullAngle halfAngle spiralAngle term alternating sineOf cosineOf t2 t3 t4 unitX unitY spiralX spiralY centreOf shiftOf arcOf tanOf tangentOf arcCheck underSpeed frictionAt leastSpiralAt radiusServes spiralServes spiralAt arcAt tangentAt tangentBefore tangentAfter straightAt formerST designChecks designChecksAt straightCheck alignmentChecks elementsFrom elementsOf total lineLength placedFrom placedElements partTo angleTo offsetX offsetY alongLine holds lastStraight holding elementUnder pegBy stationCheck pegChecks reply pegReply stationNumbers withRoom fill
+unfolding firstOf startCheck headChecks distanceCheck curveChecks bodyChecks fieldChecks rounded fullAngle halfAngle spiralAngle term alternating sineOf cosineOf t2 t3 t4 t6 t5 unitX unitY spiralX spiralY centreOf shiftOf arcOf tanOf tangentOf arcCheck underSpeed frictionAt leastSpiralAt radiusServes spiralServes spiralAt arcAt tangentAt tangentBefore tangentAfter straightAt formerST designChecks designChecksAt straightCheck alignmentChecks elementsFrom elementsOf total lineLength placedFrom placedElements partTo angleTo offsetX offsetY alongLine holds lastStraight holding elementUnder pegBy stationCheck pegChecks reply pegReply stationNumbers withRoom fill
 examples =
     record {
       start = refl;
@@ -134,6 +141,8 @@ examples =
       second-out = refl;
       left-numbers = refl;
       left-half = refl;
+      ramp-in = refl;
+      ramp-out = refl;
       no-curve = refl;
       no-curve-numbers = refl;
       far = refl;

@@ -37,7 +37,7 @@ cut = 0x10 ∷ 0x11 ∷ 0xA0 ∷ 0x00 ∷ 0x00 ∷ 0x00 ∷ 0x00 ∷ 0xF4 ∷ 0x
 pub record Examples : Type 0 where
   pub count : answerNumber (filled 257) ≡ 257
   pub refusal : answerNumber (unfilled 15 64) ≡ 64424509504
-  pub version-0-7-0 : version ≡ 7000
+  pub version-0-8-0 : version ≡ 8000
   -- ---- document 01's cases
   pub case-1 : elementNumbers 177764 350000 40000 ≡ 39986941 ∷ 761727 ∷ 19997824 ∷ 190454 ∷ 261638467 ∷ 180989280 ∷ []
   pub case-4-checked : checkReply sheet4 ≡ unfilled 13 1
@@ -108,7 +108,7 @@ examples =
     record {
       count = refl;
       refusal = refl;
-      version-0-7-0 = refl;
+      version-0-8-0 = refl;
       case-1 = sym (found-numbers 177764 350000 40000 elements1 (found-elements 177764 350000 40000 elements1 (sym (curves.examples .case-1))));
       case-4-checked = ap (λ (o : Outcome). countAfter o (length (sheetStations sheet4))) (refusedSheets.examples .case-4);
       case-9-numbers = ap lineNumbers (sheets.examples .case-9-line);

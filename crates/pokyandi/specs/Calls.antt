@@ -66,6 +66,6 @@ elementNumbers A R L = map natAbs (elementValues A R L)
 abbrev pub numbersOf : Elements → List ℕ
 numbersOf e = e .x ∷ e .y ∷ e .centre ∷ e .shift ∷ e .arc ∷ e .tangent ∷ []
 
--- The version of the library, 0.7.0: major, minor and patch in thousands.
+-- The version of the library, 0.8.0: major, minor and patch in thousands.
 abbrev pub version : ℕ
-version = (0 * 1000 + 7) * 1000 + 0
+version = (0 * 1000 + 8) * 1000 + 0

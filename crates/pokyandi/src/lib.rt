@@ -167,5 +167,5 @@ pub extern "C" fn pokyandi_text(sheet: &[u8], text: &mut [u8]) -> u64
 pub extern "C" fn pokyandi_version() -> u64
     ensures answer { λ r. ⌜ r ≡ version ⌝ }
 {
-    7000
+    8000
 }

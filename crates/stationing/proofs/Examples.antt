@@ -10,7 +10,7 @@ use Rattle.refusals.specs.Filling.{filled, unfilled, withRoom, fill}
 use Rattle.line.specs.declared.Curve.{Curve}
 use Rattle.line.specs.declared.Line.{Line}
 use Rattle.line.specs.Checks.{startCheck, headChecks, distanceCheck, curveChecks, bodyChecks, fieldChecks}
-use Rattle.elements.specs.WorkingRule.{rounded, fullAngle, halfAngle, spiralAngle, term, alternating, sineOf, cosineOf, t2, t3, t4, unitX, unitY, spiralX, spiralY, centreOf, shiftOf, arcOf, tanOf, tangentOf}
+use Rattle.elements.specs.WorkingRule.{rounded, fullAngle, halfAngle, spiralAngle, term, alternating, sineOf, cosineOf, t2, t3, t4, t6, t5, unitX, unitY, spiralX, spiralY, centreOf, shiftOf, arcOf, tanOf, tangentOf}
 use Rattle.elements.specs.Answer.{arcCheck}
 use Rattle.line.specs.Speeds.{underSpeed}
 use Rattle.stationing.specs.RoadTables.{frictionAt, leastSpiralAt, radiusServes, spiralServes}
@@ -85,6 +85,9 @@ pub record Examples : Type 0 where
   pub greatest-start : stationsIn (noCurveFrom 4000000000) (7 ∷ []) .reply ≡ filled 1
   pub greatest-start-row : stationsIn (noCurveFrom 4000000000) (7 ∷ []) .buffer ≡ 4000500000000 ∷ []
   pub start-beyond : stationsIn (noCurveFrom 4000000001) [] .reply ≡ unfilled 6 0
+  -- ---- document 02, N7: a ramp whose spirals are as long as its radius
+  pub ramp : stationsIn (lineOf 1 (500000 ∷ 400000 ∷ []) (curve 300000 200000 200000 ∷ [])) row .buffer
+      ≡ 215492495 ∷ 415492495 ∷ 506380704 ∷ 706380704 ∷ 821873199 ∷ 6 ∷ 7 ∷ []
   -- ---- the road tables, each order, each place, each limit
   pub tables : (limits 40 48456 30000
       && limits 50 82021 30000
@@ -107,7 +110,7 @@ pub record Examples : Type 0 where
   pub last-straight : stationsIn (lineOf 1 (500000 ∷ 180990 ∷ []) (curve1 350000 40000 ∷ [])) row .reply ≡ unfilled 15 1
 
 pub examples : Examples
-unfolding firstOf startCheck headChecks distanceCheck curveChecks bodyChecks fieldChecks rounded fullAngle halfAngle spiralAngle term alternating sineOf cosineOf t2 t3 t4 unitX unitY spiralX spiralY centreOf shiftOf arcOf tanOf tangentOf arcCheck underSpeed frictionAt leastSpiralAt radiusServes spiralServes spiralAt arcAt tangentAt tangentBefore tangentAfter straightAt formerST pointsAt endOf curveStations stationsOf stationRow designChecks designChecksAt straightCheck alignmentChecks withRoom fill stationsIn
+unfolding firstOf startCheck headChecks distanceCheck curveChecks bodyChecks fieldChecks rounded fullAngle halfAngle spiralAngle term alternating sineOf cosineOf t2 t3 t4 t6 t5 unitX unitY spiralX spiralY centreOf shiftOf arcOf tanOf tangentOf arcCheck underSpeed frictionAt leastSpiralAt radiusServes spiralServes spiralAt arcAt tangentAt tangentBefore tangentAfter straightAt formerST pointsAt endOf curveStations stationsOf stationRow designChecks designChecksAt straightCheck alignmentChecks withRoom fill stationsIn
 examples =
     record {
       case-1 = refl;
@@ -126,6 +129,7 @@ examples =
       greatest-start = refl;
       greatest-start-row = refl;
       start-beyond = refl;
+      ramp = refl;
       tables = refl;
       spiral-by-radius = refl;
       radius-before-spiral = refl;
