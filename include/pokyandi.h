@@ -25,8 +25,8 @@
 extern "C" {
 #endif
 
-/* The version of this header, 0.7.0: major x 1,000,000 + minor x 1,000 + patch. A later library may have more refusals. */
-#define POKYANDI_VERSION 7000
+/* The version of this header, 0.8.0: major x 1,000,000 + minor x 1,000 + patch. A later library may have more refusals. */
+#define POKYANDI_VERSION 8000
 
 /* The version of the library that is linked. */
 uint64_t pokyandi_version(void);

@@ -1,5 +1,5 @@
 /* The elements of one curve in f64 with the C library's sine, cosine and tangent, unchecked: what the rule costs without whole
- * numbers, checks and proofs. The formulas are those of document 01's "Clerk's sums". */
+ * numbers, checks and proofs. The formulas are those of document 01's "Clerk's sums", with the terms of document 02's N7. */
 #include <math.h>
 #include <stdint.h>
 
@@ -13,8 +13,9 @@ void baseline_elements(uint32_t deflection, uint32_t radius, uint32_t spiral, do
     double s = l / (2 * r);
     double s2 = s * s;
 
-    double x = l * (1 - s2 / 10 + s2 * s2 / 216);
-    double y = l * (s / 3 - s2 * s / 42);
+    double s4 = s2 * s2;
+    double x = l * (1 - s2 / 10 + s4 / 216 - s4 * s2 / 9360);
+    double y = l * (s / 3 - s2 * s / 42 + s4 * s / 1320);
     double k = x - r * sin(s);
     double p = y - r * (1 - cos(s));
     elements[0] = x;

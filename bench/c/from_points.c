@@ -71,8 +71,9 @@ static inline int64_t tangent(uint64_t a, uint64_t r, uint64_t l) {
     if (l > 0) {
         uint64_t t = l * (SCALE / 2) / r;
         uint64_t t2 = t * t / SCALE, t3 = t2 * t / SCALE, t4 = t2 * t2 / SCALE;
-        k = nearest(l * (SCALE - t2 / 10 + t4 / 216), 1000000) - nearest(r * sine(t), 1000000);
-        p = nearest(l * (t / 3 - t3 / 42), 1000000) - nearest(r * (SCALE - cosine(t)), 1000000);
+        uint64_t t5 = t4 * t / SCALE, t6 = t4 * t2 / SCALE;
+        k = nearest(l * (SCALE - t2 / 10 + t4 / 216 - t6 / 9360), 1000000) - nearest(r * sine(t), 1000000);
+        p = nearest(l * (t / 3 - t3 / 42 + t5 / 1320), 1000000) - nearest(r * (SCALE - cosine(t)), 1000000);
     }
     return (int64_t)(k + nearest((1000 * r + p) * tan, SCALE));
 }
