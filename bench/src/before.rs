@@ -1,6 +1,6 @@
 //! The library of the landing before, where POKYANDI_BEFORE named its folder when the
-//! bench was built: what it reads, writes, rewrites, checks, prints and calculates. It
-//! is of edition 1 alone, and its writer is not told the edition.
+//! bench was built: what it reads, writes, rewrites, checks, prints and calculates, in
+//! edition 1.
 
 use crate::inputs::{Inputs, Road};
 use crate::job::{keep, Job, Task};
@@ -38,6 +38,7 @@ extern "C" {
     ) -> u64;
 
     fn before_write(
+        edition: u32,
         line: *const u32,
         line_numbers: usize,
         bytes: *mut u8,
@@ -97,7 +98,7 @@ impl Before {
         }
     }
 
-    /// The sheet of a line in numbers.
+    /// The sheet of a line in numbers, in edition 1.
     pub fn write(&mut self, line: &[u32]) -> Answer<&[u8]> {
         let count = write(line, &mut self.bytes)?;
         Ok(&self.bytes[..count])
@@ -187,7 +188,7 @@ fn from_points(survey: &Survey, line: &mut [u32]) -> Result<usize, Refusal> {
 #[inline(never)]
 fn write(line: &[u32], bytes: &mut [u8]) -> Result<usize, Refusal> {
     // SAFETY: pointers and lengths are those of slices; the bytes are borrowed alone.
-    counted(unsafe { before_write(line.as_ptr(), line.len(), bytes.as_mut_ptr(), bytes.len()) })
+    counted(unsafe { before_write(1, line.as_ptr(), line.len(), bytes.as_mut_ptr(), bytes.len()) })
 }
 
 #[inline(never)]
