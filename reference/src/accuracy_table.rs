@@ -183,14 +183,14 @@ mod tests {
             assert_eq!(words(&table, name).join(" "), expected);
         };
         check("k ", format!("30 0.673 {curve} 0.673 {curve}"));
-        check("D - 2 TT ", format!("-2.367 {curve} -2.367 {curve}"));
+        check("D - 2 TT ", format!("-2.351 {curve} -2.351 {curve}"));
         check(
             "of curve i, over i ",
-            format!("700 -1.299 CS 1 of 1, {curve} -1.068 TS 1 of 1, {curve}"),
+            format!("700 -1.291 CS 1 of 1, {curve} -1.060 TS 1 of 1, {curve}"),
         );
         check(
             "shortest straight accepted ",
-            format!("219010.721068 straight 1 of 1, {curve}"),
+            format!("219010.721060 straight 1 of 1, {curve}"),
         );
         check(
             "shortest arc accepted ",

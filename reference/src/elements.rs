@@ -1,9 +1,9 @@
 //! The elements of one curve, in the order and words of document 01, Working
-//! rule, and of document 02, Nearest, not down. All work is in `i128`, so that no
-//! step can overflow.
+//! rule, and of document 02, Nearest, not down, and Interchange ramps. All work is
+//! in `i128`, so that no step can overflow.
 //!
 //! Capital X and Y of the paper are [`Elements::x`] and [`Elements::y`]; the
-//! paper's small x and y are the functions `x_ratio` and `y_ratio`.
+//! paper's small x and y are the functions [`x_ratio`] and [`y_ratio`].
 
 use crate::refusal::{refuse, Refusal};
 
@@ -73,15 +73,39 @@ pub fn check_arc(a: u32, r: u32, l: u32) -> Result<(), Refusal> {
     Ok(())
 }
 
+/// Small x and y of a spiral angle.
+#[derive(Clone, Copy)]
+pub struct Ratios {
+    pub x: fn(i128) -> i128,
+    pub y: fn(i128) -> i128,
+}
+
+/// Those of the rule.
+pub const RATIOS: Ratios = Ratios {
+    x: x_ratio,
+    y: y_ratio,
+};
+
+/// Those with the terms of source document 002 alone.
+pub const SHORTER_RATIOS: Ratios = Ratios {
+    x: shorter_x_ratio,
+    y: shorter_y_ratio,
+};
+
 /// All six elements of a curve whose fields are in range (document 01, Working
-/// rule; document 02, Nearest, not down).
+/// rule; document 02, Nearest, not down, and Interchange ramps).
 pub fn working_rule(a: u32, r: u32, l: u32) -> Elements {
+    rule_with(RATIOS, a, r, l)
+}
+
+/// The same with these x and y.
+pub fn rule_with(ratios: Ratios, a: u32, r: u32, l: u32) -> Elements {
     let t = spiral_angle(l, r);
     let d = arc(a, r, l);
     let (r, l) = (i128::from(r), i128::from(l));
 
-    let x = nearest(l * x_ratio(t), TO_MICROMETRES);
-    let y = nearest(l * y_ratio(t), TO_MICROMETRES);
+    let x = nearest(l * (ratios.x)(t), TO_MICROMETRES);
+    let y = nearest(l * (ratios.y)(t), TO_MICROMETRES);
     let k = x - nearest(r * sine(t), TO_MICROMETRES);
     let p = y - nearest(r * (SCALE - cosine(t)), TO_MICROMETRES);
     let tt = k + nearest((1_000 * r + p) * tan(half_angle(a)), SCALE);
@@ -169,13 +193,34 @@ fn t4(t: i128) -> i128 {
     quotient(t2(t) * t2(t), SCALE)
 }
 
-/// Small x = 10⁹ − t2/10 + t4/216 (document 01, Working rule).
+/// t5 = t4 × t / 10⁹ (document 02, Interchange ramps).
+fn t5(t: i128) -> i128 {
+    quotient(t4(t) * t, SCALE)
+}
+
+/// t6 = t4 × t2 / 10⁹ (document 02, Interchange ramps).
+fn t6(t: i128) -> i128 {
+    quotient(t4(t) * t2(t), SCALE)
+}
+
+/// Small x: document 01's, and "in the rule x loses t6/9360" (document 02,
+/// Interchange ramps).
 pub fn x_ratio(t: i128) -> i128 {
+    shorter_x_ratio(t) - quotient(t6(t), 9_360)
+}
+
+/// Small y: document 01's, and "y gains t5/1320" (document 02, Interchange ramps).
+pub fn y_ratio(t: i128) -> i128 {
+    shorter_y_ratio(t) + quotient(t5(t), 1_320)
+}
+
+/// Document 01's x = 10⁹ − t2/10 + t4/216 (Working rule).
+pub fn shorter_x_ratio(t: i128) -> i128 {
     SCALE - quotient(t2(t), 10) + quotient(t4(t), 216)
 }
 
-/// Small y = t/3 − t3/42 (document 01, Working rule).
-pub fn y_ratio(t: i128) -> i128 {
+/// Document 01's y = t/3 − t3/42 (Working rule).
+pub fn shorter_y_ratio(t: i128) -> i128 {
     quotient(t, 3) - quotient(t3(t), 42)
 }
 
@@ -231,6 +276,75 @@ mod tests {
         for (a, r) in [(177_764, 350_000), (432_000, 20_000), (432_000, 5_000_000)] {
             let found = elements(a, r, 0).unwrap();
             assert_eq!((found.x, found.y, found.k, found.p), (0, 0, 0, 0));
+        }
+    }
+
+    /// L = R has t = 5 × 10⁸, t2 250,000,000, t3 125,000,000, t4 62,500,000, t5
+    /// 31,250,000 and t6 15,625,000: x = 10⁹ − 25,000,000 + 289,351 − 1,669, y =
+    /// 166,666,666 − 2,976,190 + 23,674.
+    #[test]
+    fn ratios_of_a_spiral_as_long_as_the_radius() {
+        let t = spiral_angle(60_000, 60_000);
+        assert_eq!((x_ratio(t), y_ratio(t)), (975_287_682, 163_714_150));
+        let shorter = (shorter_x_ratio(t), shorter_y_ratio(t));
+        assert_eq!(shorter, (975_289_351, 163_690_476));
+    }
+
+    /// The numbers are worked by another program. The first has no arc.
+    #[test]
+    fn longest_ramps() {
+        let found = working_rule(200_000, 500_000, 500_000);
+        let [x, y, k, p] = [487_643_841, 81_857_075, 247_931_072, 20_648_355];
+        let (d, tt) = (-15_186_319, 522_179_793);
+        assert_eq!(found, Elements { x, y, k, p, d, tt });
+        assert_eq!(elements(200_000, 500_000, 500_000), refuse(14, 0));
+        let (d, tt) = (547_197_551, 1_149_720_476);
+        let expected = Elements { x, y, k, p, d, tt };
+        assert_eq!(elements(432_000, 500_000, 500_000), Ok(expected));
+    }
+
+    /// X and Y of the longest ramp by other terms than document 02's, worked by another
+    /// program: none left out, of another sign or another number counts as the rule.
+    #[test]
+    fn other_terms_give_other_numbers() {
+        let x_by = |x| Ratios { x, ..RATIOS };
+        let y_by = |y| Ratios { y, ..RATIOS };
+        let [x, y] = [487_643_841, 81_857_075];
+        for (ratios, expected) in [
+            (RATIOS, (x, y)),
+            // Left out.
+            (x_by(shorter_x_ratio), (487_644_676, y)),
+            (y_by(shorter_y_ratio), (x, 81_845_238)),
+            // With the other sign.
+            (
+                x_by(|t| 2 * shorter_x_ratio(t) - x_ratio(t)),
+                (487_645_510, y),
+            ),
+            (
+                y_by(|t| 2 * shorter_y_ratio(t) - y_ratio(t)),
+                (x, 81_833_401),
+            ),
+            // Over 936 and 132.
+            (
+                x_by(|t| shorter_x_ratio(t) - quotient(t6(t), 936)),
+                (487_636_329, y),
+            ),
+            (
+                y_by(|t| shorter_y_ratio(t) + quotient(t5(t), 132)),
+                (x, 81_963_609),
+            ),
+            // t6 from t4 × t, and t5 from t3 × t.
+            (
+                x_by(|t| shorter_x_ratio(t) - quotient(quotient(t4(t) * t, SCALE), 9_360)),
+                (487_643_007, y),
+            ),
+            (
+                y_by(|t| shorter_y_ratio(t) + quotient(quotient(t3(t) * t, SCALE), 1_320)),
+                (x, 81_868_912),
+            ),
+        ] {
+            let found = rule_with(ratios, 432_000, 500_000, 500_000);
+            assert_eq!((found.x, found.y), expected);
         }
     }
 

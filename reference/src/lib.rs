@@ -12,11 +12,13 @@
 //! [`line_numbers`], a sheet as text in [`hexadecimal`]; the samples are in
 //! [`samples`]. How far rule and fractions lie apart is in [`accuracy`], looked for
 //! by [`search`] and printed by [`accuracy_table`]; how far the ends of roads do is
-//! in [`drift`]. The station program is run by [`runner`].
+//! in [`drift`], how far the rule lies from the clothoid itself in [`clothoid`]. The
+//! station program is run by [`runner`].
 
 pub mod accuracy;
 pub mod accuracy_table;
 pub mod bits;
+pub mod clothoid;
 pub mod curve;
 pub mod drift;
 pub mod edition;

@@ -1,8 +1,9 @@
 //! The reference's command line: makes samples and works them, searches for large
 //! differences between the working rule and the fractions, and tells the drift of
-//! roads.
+//! roads and how far the rule lies from the clothoid.
 
 use reference::accuracy_table::accuracy_table;
+use reference::clothoid::{clothoid_table, COUNT, SEED};
 use reference::drift::drift_table;
 use reference::hexadecimal::{digits_of, lines, read_bytes};
 use reference::line::MOST_CURVES;
@@ -23,6 +24,7 @@ usage: reference station-sheets SEED COUNT
        reference sample-sheets FOLDER
        reference accuracy SEED CURVES LINES
        reference drift SEED ROADS CURVES
+       reference clothoid [SEED COUNT]
 
 station-sheets
           prints COUNT sample sheets for the station program, one per line: two
@@ -44,6 +46,12 @@ drift     prints how far the ends of mountain roads drift, rule minus exact: of
           the one of 64 curves among the sheets with a name, and of ROADS random
           ones of CURVES curves each (1 to 64) the mean, the mean size, the least
           and the largest. Always the same for the same SEED.
+clothoid  prints how far X, Y, k, p and TT lie from those of the clothoid itself,
+          rule minus clothoid, the largest difference either way: with the terms
+          of source document 002 and with one more, for spirals of a quarter, a
+          half and all of the radius, COUNT of each and climbs from the worst,
+          and for COUNT curves with any. Always the same for the same SEED.
+          Without SEED and COUNT: seed 1, 500000, about 20 seconds.
 ";
 
 /// What the arguments ask for.
@@ -65,6 +73,10 @@ enum Request {
         seed: u64,
         roads: usize,
         curves: usize,
+    },
+    Clothoid {
+        seed: u64,
+        count: usize,
     },
 }
 
@@ -108,6 +120,14 @@ fn read_arguments(arguments: impl Iterator<Item = OsString>) -> Option<Request> 
             roads: above_zero(roads)?,
             curves: above_zero(curves).filter(|curves| *curves <= MOST_CURVES)?,
         }),
+        ["clothoid"] => Some(Request::Clothoid {
+            seed: SEED,
+            count: COUNT,
+        }),
+        ["clothoid", seed, count] => Some(Request::Clothoid {
+            seed: seed.parse().ok()?,
+            count: above_zero(count)?,
+        }),
         _ => None,
     }
 }
@@ -135,6 +155,7 @@ fn answer(request: Request) -> io::Result<()> {
             roads,
             curves,
         } => print(drift_table(seed, roads, curves).into_iter()),
+        Request::Clothoid { seed, count } => print(clothoid_table(seed, count).into_iter()),
     }
 }
 
@@ -182,12 +203,26 @@ fn report_text(line: &[u8]) -> String {
 mod tests {
     use super::*;
 
+    fn is_taken(line: &str) -> bool {
+        let words = line.split(' ').map(OsString::from);
+        read_arguments(words).is_some()
+    }
+
+    #[test]
+    fn arguments_of_clothoid() {
+        assert!(is_taken("clothoid") && is_taken("clothoid 0 1"));
+        for line in [
+            "clothoid 1",
+            "clothoid 1 0",
+            "clothoid x 1",
+            "clothoid 1 2 3",
+        ] {
+            assert!(!is_taken(line), "{line}");
+        }
+    }
+
     #[test]
     fn arguments_of_drift() {
-        let is_taken = |line: &str| {
-            let words = line.split(' ').map(OsString::from);
-            read_arguments(words).is_some()
-        };
         assert!(is_taken("drift 1 1000 60") && is_taken("drift 0 1 64"));
         for line in [
             "drift 1 1000",

@@ -1,8 +1,9 @@
 //! The element under a station of a line, in the words of document 02, Pegs
-//! along the line and Nearest, not down.
+//! along the line and Nearest, not down; its offsets follow document 02's
+//! Interchange ramps by their x and y.
 
 use crate::curve::Curve;
-use crate::elements::{nearest, quotient, spiral_angle, x_ratio, y_ratio, SCALE};
+use crate::elements::{nearest, quotient, spiral_angle, Ratios, RATIOS, SCALE};
 use crate::lent::fill;
 use crate::line::{Line, LEFT, MOST_CURVES};
 use crate::refusal::{refuse, Refusal};
@@ -133,13 +134,19 @@ fn offsets_of(line: &Line, i: usize, length: u64) -> (i128, i128) {
 /// The offsets on a spiral of a right curve, L above 0, at length l in µm from
 /// its outer end: u = l × 10⁶ / L, angle = (u × u / 10⁹) × t / 10⁹, then x and
 /// y by document 01 from that angle, each times l over 10⁹, to the nearest µm.
-pub fn offsets(Curve { r, l: spiral, .. }: Curve, l: u64) -> (i128, i128) {
+pub fn offsets(curve: Curve, l: u64) -> (i128, i128) {
+    offsets_with(RATIOS, curve, l)
+}
+
+/// The same with these x and y.
+pub fn offsets_with(ratios: Ratios, curve: Curve, l: u64) -> (i128, i128) {
+    let Curve { r, l: spiral, .. } = curve;
     let t = spiral_angle(spiral, r);
     let l = i128::from(l);
     let u = quotient(l * 1_000_000, i128::from(spiral));
     let angle = quotient(quotient(u * u, SCALE) * t, SCALE);
-    let x = nearest(x_ratio(angle) * l, SCALE);
-    let y = nearest(y_ratio(angle) * l, SCALE);
+    let x = nearest((ratios.x)(angle) * l, SCALE);
+    let y = nearest((ratios.y)(angle) * l, SCALE);
     (x, y)
 }
 
@@ -264,8 +271,8 @@ mod tests {
 
     /// The offsets are worked by hand: half of the spiral has u = 5 × 10⁸, a
     /// quarter of t = 57,142,857, so angle 14,285,714, t2 204,081, t3 2,915, t4
-    /// 41; x = 10⁹ − 20,408 = 999,979,592, y = 4,761,904 − 69 = 4,761,835; times 20
-    /// m they are 19,999,591.84 and 95,236.7 µm.
+    /// 41, t5 and t6 0; x = 10⁹ − 20,408 = 999,979,592, y = 4,761,904 − 69 =
+    /// 4,761,835; times 20 m they are 19,999,591.84 and 95,236.7 µm.
     #[test]
     fn spirals_of_case_1() {
         for (station, element, length, x, y) in [
@@ -354,9 +361,10 @@ mod tests {
     #[test]
     fn roundings_of_the_offsets() {
         let expected = [
-            (357_150_872, 30_148_091),
-            (421_771_266, 50_377_789),
-            (443_203_052, 58_853_296),
+            (409_597_397, 45_986_423),
+            (468_843_811, 70_365_177),
+            (482_185_223, 77_004_558),
+            (487_013_278, 79_525_956),
         ];
         let found = ROUNDED_LENGTHS.map(|length| offsets(ROUNDED_CURVE, length));
         assert_eq!(found, expected);

@@ -1,5 +1,5 @@
 //! The elements of one curve in fractions, in the order and words of document
-//! 01, Clerk's sums.
+//! 01, Clerk's sums, and of document 02, Interchange ramps.
 //!
 //! As in the working rule's module, the paper's capital X and Y are
 //! [`ExactElements::x`] and [`ExactElements::y`].
@@ -29,7 +29,7 @@ pub struct ExactElements {
 }
 
 /// All six elements of a curve whose fields are in range (document 01, Clerk's
-/// sums).
+/// sums; document 02, Interchange ramps).
 pub fn exact_elements(curve: Curve) -> ExactElements {
     elements_with_terms(curve, TERMS)
 }
@@ -66,14 +66,14 @@ fn half_angle(a: u32) -> Fraction {
 }
 
 /// The spiral angle s = L / 2R (document 01, Clerk's sums).
-fn spiral_angle(Curve { r, l, .. }: Curve) -> Fraction {
+pub(super) fn spiral_angle(Curve { r, l, .. }: Curve) -> Fraction {
     Fraction::from(l) / (Fraction::from(2) * r)
 }
 
 /// Sine of q, its power series through power 2 × terms − 1 (document 01,
 /// Clerk's sums): q(1 − z/(2 × 3) × (1 − z/(4 × 5) × (1 − ..))) with z = q²,
 /// which is the same sum and keeps the numbers short.
-fn sine(q: &Fraction, terms: u32) -> Fraction {
+pub(super) fn sine(q: &Fraction, terms: u32) -> Fraction {
     let z = q * q;
     let mut sum = Fraction::from(1);
     for j in (1..terms).rev() {
@@ -84,7 +84,7 @@ fn sine(q: &Fraction, terms: u32) -> Fraction {
 
 /// Cosine of q, its power series through power 2 × terms − 2 (document 01,
 /// Clerk's sums): 1 − z/(1 × 2) × (1 − z/(3 × 4) × (1 − ..)) with z = q².
-fn cosine(q: &Fraction, terms: u32) -> Fraction {
+pub(super) fn cosine(q: &Fraction, terms: u32) -> Fraction {
     let z = q * q;
     let mut sum = Fraction::from(1);
     for j in (1..terms).rev() {
@@ -93,17 +93,22 @@ fn cosine(q: &Fraction, terms: u32) -> Fraction {
     sum
 }
 
-/// X over L: 1 − s²/10 + s⁴/216 (document 01, Clerk's sums).
+/// X over L: 1 − s²/10 + s⁴/216 (document 01, Clerk's sums) − s⁶/9360: "X now
+/// loses L × s⁶/9360" (document 02, Interchange ramps).
 pub fn x_ratio(s: &Fraction) -> Fraction {
     let s2 = s * s;
     let s4 = &s2 * &s2;
-    Fraction::from(1) - s2 / 10 + s4 / 216
+    let s6 = &s4 * &s2;
+    Fraction::from(1) - s2 / 10 + s4 / 216 - s6 / 9_360
 }
 
-/// Y over L: s/3 − s³/42 (document 01, Clerk's sums).
+/// Y over L: s/3 − s³/42 (document 01, Clerk's sums) + s⁵/1320: "Y gains L ×
+/// s⁵/1320" (document 02, Interchange ramps).
 pub fn y_ratio(s: &Fraction) -> Fraction {
-    let s3 = s * s * s;
-    s / 3 - s3 / 42
+    let s2 = s * s;
+    let s3 = &s2 * s;
+    let s5 = &s3 * &s2;
+    s / 3 - s3 / 42 + s5 / 1_320
 }
 
 /// D = R × A × π / 648,000 − L, which may be below zero (document 01, Clerk's
@@ -188,32 +193,41 @@ mod tests {
     #[test]
     fn digits_of_the_elements() {
         let case_1 = [
-            39_986_940_749_996_143,
-            761_727_058_170_206,
-            19_997_823_326_838_444,
-            190_453_960_586_192,
+            39_986_940_749_847_359,
+            761_727_076_632_932,
+            19_997_823_326_689_660,
+            190_453_979_048_918,
             261_638_467_230_644_424,
-            180_989_278_931_612_491,
+            180_989_278_939_951_492,
         ];
         check(CASE_1, case_1);
         let greatest = [
-            499_875_014_467_592_592,
-            8_331_845_238_095_238,
-            249_979_168_114_200_948,
-            2_083_147_212_926_470,
+            499_875_014_466_757_923,
+            8_331_845_356_466_450,
+            249_979_168_113_366_279,
+            2_083_147_331_297_683,
             9_971_975_511_965_976_666,
-            8_913_841_322_772_684_507,
+            8_913_841_322_976_874_792,
         ];
         check(Curve::new(432_000, 5_000_000, 500_000), greatest);
         let below_zero = [
-            19_505_787_037_037_037,
-            3_273_809_523_809_523,
-            9_917_276_264_952_977,
-            825_460_761_616_978,
+            19_505_753_650_284_900,
+            3_274_283_008_658_008,
+            9_917_242_878_200_840,
+            825_934_246_465_462,
             -19_999_903_037_263_779,
-            9_917_326_747_294_440,
+            9_917_293_361_690_063,
         ];
         check(Curve::new(1, 20_000, 20_000), below_zero);
+        let longest_ramp = [
+            487_643_841_257_122_507,
+            81_857_075_216_450_216,
+            247_931_071_955_021_006,
+            20_648_356_161_636_574,
+            547_197_551_196_597_666,
+            1_149_720_477_704_365_174,
+        ];
+        check(Curve::new(432_000, 500_000, 500_000), longest_ramp);
     }
 
     #[test]

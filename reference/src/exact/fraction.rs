@@ -1,6 +1,6 @@
 //! Fractions, nothing rounded (document 01, Clerk's sums). They are not reduced
 //! by common factors, which would change no value: the numbers of one curve
-//! stay below 60 digits of base 2⁶⁴ without it.
+//! stay below 60 digits of base 2⁶⁴ without it, those of a clothoid below 250.
 
 use super::whole::Whole;
 use std::cmp::Ordering;

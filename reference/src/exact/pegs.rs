@@ -1,4 +1,5 @@
-//! The offsets on a spiral in fractions (document 02, Pegs along the line).
+//! The offsets on a spiral in fractions (document 02, Pegs along the line, and
+//! Interchange ramps: "pegs follow").
 
 use super::elements::{x_ratio, y_ratio};
 use super::fraction::Fraction;
@@ -44,10 +45,10 @@ mod tests {
         let s = angle(CASE_1, &Fraction::from(20_000));
         assert_eq!(s, fraction(1, 70));
         let [x, y] = exact_offsets(CASE_1, 20_000_000);
-        let [s2, s3, s4] = [70 * 70, 70 * 70 * 70, 70 * 70 * 70 * 70];
-        let ratio = fraction(1, 1) - fraction(1, 10 * s2) + fraction(1, 216 * s4);
+        let over = |number: i128, power: u32| fraction(1, number * 70_i128.pow(power));
+        let ratio = fraction(1, 1) - over(10, 2) + over(216, 4) - over(9_360, 6);
         assert_eq!(x, ratio * 20_000);
-        let ratio = fraction(1, 3 * 70) - fraction(1, 42 * s3);
+        let ratio = over(3, 1) - over(42, 3) + over(1_320, 5);
         assert_eq!(y, ratio * 20_000);
     }
 }

@@ -1,6 +1,7 @@
-//! Sample curves: document 01's cases, the edges of the ranges, and random
-//! curves.
+//! Sample curves: document 01's cases, the edges of the ranges, spirals that are long
+//! for their radius, and random curves.
 
+use super::call_edges::LARGE_DEFLECTION;
 use super::dice::Dice;
 use super::limits::{greatest_spiral, least_deflection};
 use super::named::{named, Claim, Named};
@@ -86,6 +87,51 @@ fn claim_of(Curve { a, r, l }: Curve) -> Claim {
     } else {
         Claim::Accepted
     }
+}
+
+/// Spirals as long as the radius, a half and a quarter of it, where the last terms of x
+/// and y count most (document 02, Interchange ramps): with one second less than leaves
+/// an arc, with just enough, and with more.
+pub fn long_spirals() -> Vec<Named<Curve>> {
+    let mut curves = Vec::new();
+    for (part, radii) in [
+        (1, [20_000, 48_000, 60_000, 500_000]),
+        (2, [20_000, 40_000, 120_000, 1_000_000]),
+        (4, [20_000, 80_000, 240_000, 2_000_000]),
+    ] {
+        for r in radii {
+            let l = r / part;
+            let least = least_deflection(r, l);
+            for (a, number) in [
+                (least - 1, 14),
+                (least, 0),
+                (LARGE_DEFLECTION, 0),
+                (GREATEST_DEFLECTION, 0),
+            ] {
+                let curve = Curve::new(a, r, l);
+                let name = format!("spiral of R/{part}, curve {curve}");
+                curves.push(named(name, Claim::accepted_or(number, 0), curve));
+            }
+        }
+    }
+    curves
+}
+
+/// Curves at one of which X or Y changes whatever quotient of t, x and y is rounded
+/// otherwise, as at [`super::peg_edges::ROUNDED_LENGTHS`].
+pub const ROUNDED_CURVES: [Curve; 3] = [
+    Curve::new(LARGE_DEFLECTION, 508_686, 495_300),
+    Curve::new(LARGE_DEFLECTION, 511_101, 497_154),
+    Curve::new(LARGE_DEFLECTION, 515_625, 490_433),
+];
+
+/// The same with a name.
+pub fn rounded_curves() -> Vec<Named<Curve>> {
+    let curves = ROUNDED_CURVES.map(|curve| {
+        let name = format!("roundings, curve {curve}");
+        named(name, Claim::Accepted, curve)
+    });
+    curves.to_vec()
 }
 
 /// A random curve, of any kind.
@@ -198,12 +244,13 @@ fn out_of_range(dice: &mut Dice) -> Curve {
 #[cfg(test)]
 mod tests {
     use super::*;
-    use crate::elements::elements;
+    use crate::elements::{elements, Elements};
     use std::collections::BTreeMap;
 
     #[test]
     fn cases_and_edges_are_answered_as_claimed() {
-        for curve in [document_cases(), edges()].concat() {
+        let curves = [document_cases(), edges(), long_spirals(), rounded_curves()];
+        for curve in curves.concat() {
             let Curve { a, r, l } = curve.sample;
             let answer = elements(a, r, l);
             assert!(curve.holds(&[9, 10, 11, 14], &answer), "{curve:?}");
@@ -216,6 +263,21 @@ mod tests {
         // range and three next to R, of which 0 has none and the largest number
         // one.
         assert_eq!(edges().len(), 7 * (8 * 6 + 6 * 3 + 1));
+    }
+
+    /// X and Y, worked by another program.
+    #[test]
+    fn roundings_of_the_elements() {
+        let found = ROUNDED_CURVES.map(|Curve { a, r, l }| {
+            let Elements { x, y, .. } = elements(a, r, l).unwrap();
+            (x, y)
+        });
+        let expected = [
+            (483_688_725, 79_027_200),
+            (485_522_295, 79_246_408),
+            (479_456_503, 76_498_375),
+        ];
+        assert_eq!(found, expected);
     }
 
     #[test]

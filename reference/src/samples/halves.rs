@@ -20,24 +20,25 @@ pub enum Division {
 
 /// Curves at which the division leaves one half: the quotient goes up. Without its
 /// half it is even, so that halves to the even number would go down; only that of
-/// the arc of 999.5 µm, which is accepted, is odd.
+/// the arc of 999.5 µm, which is accepted, is odd. The last terms of x and y count in
+/// those of X and Y and, here and in the lists below, in some of the others.
 pub const HALVES: [(Division, Curve); 9] = [
-    (X, Curve::new(108_000, 265_000, 50_000)),
-    (Y, Curve::new(108_000, 500_000, 50_000)),
+    (X, Curve::new(252_000, 107_000, 100_000)),
+    (Y, Curve::new(252_000, 105_000, 50_000)),
     (SinePart, Curve::new(108_000, 325_000, 60_000)),
     (CosinePart, Curve::new(108_000, 125_000, 30_000)),
     (Arc, Curve::new(7_200, 100_000, 0)),
     (Arc, ARC_GONE_UP),
     (Tangent, Curve::new(3_600, 125_000, 0)),
-    (Tangent, Curve::new(157_482, 231_000, 41_000)),
+    (Tangent, Curve::new(300_965, 202_000, 184_000)),
     (Tangent, TANGENT_GONE_UP),
 ];
 
 /// Curves at which the division leaves 1 less than half: the quotient goes down.
 /// The arc of 999.499999 µm is refused.
 pub const BELOW_HALVES: [(Division, Curve); 8] = [
-    (X, Curve::new(252_000, 50_657, 49_261)),
-    (Y, Curve::new(252_000, 50_309, 48_813)),
+    (X, Curve::new(252_000, 49_941, 48_137)),
+    (Y, Curve::new(252_000, 54_725, 50_083)),
     (SinePart, Curve::new(252_000, 52_221, 44_731)),
     (CosinePart, Curve::new(252_000, 54_507, 50_493)),
     (Arc, Curve::new(162_000, 440_773, 0)),
@@ -58,14 +59,14 @@ const TANGENT_GONE_DOWN: Curve = Curve::new(57_547, 692_976, 30_000);
 /// Curves and lengths on their spirals, µm, at which the last division of x, then
 /// that of y, leaves one half.
 pub const HALF_LENGTHS: [(Curve, u64); 2] = [
-    (Curve::new(LARGE_DEFLECTION, 125_000, 60_000), 15_000_000),
-    (Curve::new(LARGE_DEFLECTION, 105_000, 40_000), 25_000_000),
+    (Curve::new(LARGE_DEFLECTION, 105_000, 90_000), 75_000_000),
+    (Curve::new(LARGE_DEFLECTION, 75_000, 70_000), 50_000_000),
 ];
 
 /// The same with 1 less than half.
 pub const BELOW_HALF_LENGTHS: [(Curve, u64); 2] = [
-    (Curve::new(LARGE_DEFLECTION, 508_000, 500_000), 129_090_267),
-    (Curve::new(LARGE_DEFLECTION, 501_000, 500_000), 243_053_929),
+    (Curve::new(LARGE_DEFLECTION, 546_000, 500_000), 467_288_031),
+    (Curve::new(LARGE_DEFLECTION, 523_000, 500_000), 444_622_927),
 ];
 
 /// The curves, for the call of one curve's elements.
@@ -183,19 +184,19 @@ mod tests {
 
     /// A, R, L, then X, Y, k, p, D and TT, worked by another program.
     const WORKED: &str = "\
-108000 265000 50000: 49955519 1571328 24992586 392957 88753675 96104414
-108000 500000 50000: 49987501 833185 24997916 208315 211799388 159028330
-108000 325000 60000: 59948896 1845030 29991481 461398 110169602 117198600
+252000 107000 100000: 97838367 15335066 49638267 3863859 30725161 127265977
+252000 105000 50000: 49717296 3952215 24952833 990058 78281700 99167871
+108000 325000 60000: 59948896 1845031 29991481 461399 110169602 117198600
 108000 125000 30000: 29956829 1198766 14992803 299845 35449847 48566795
 7200 100000 0: 0 0 0 0 3490659 1745506
 1438 4475000 31197: 31196962 36248 15598495 9062 1000 31197589
 3600 125000 0: 0 0 0 0 2181662 1090859
-157482 231000 41000: 40967722 1212160 20494620 303125 135367179 113348947
+300965 202000 184000: 180219754 27522842 91367532 6932000 110742138 278178857
 38100 361000 0: 0 0 0 0 66681758 33436001
-252000 50657 49261: 48109162 7849092 24437741 1978200 12628201 61293305
-252000 50309 48813: 47676689 7760882 24216343 1955900 12651039 60812620
-252000 52221 44731: 43917474 6302212 22229476 1585565 19068987 59905238
-252000 54507 50493: 49420508 7676305 25067083 1933265 16099863 64586982
+252000 49941 48137: 47030904 7605682 23883355 1917303 12877442 60194930
+252000 54725 50083: 49044445 7525634 24867734 1895565 16776200 64513880
+252000 52221 44731: 43917444 6302701 22229446 1586054 19068987 59905551
+252000 54507 50493: 49420455 7677120 25067030 1934080 16099863 64587500
 162000 440773 0: 0 0 0 0 346182304 182574154
 5333 1334823 34511: 34510423 148708 17255404 37177 999 34512845
 39180 525673 43300: 43292656 594369 21648777 148601 56551586 71739383
@@ -220,10 +221,10 @@ mod tests {
             .map(|(curve, length)| offsets(curve, length))
             .collect();
         let expected = [
-            (14_999_663, 74_999),
-            (24_986_163, 619_795),
-            (129_076_376, 1_411_439),
-            (242_716_208, 9_543_714),
+            (74_338_391, 7_393_533),
+            (49_717_296, 3_952_215),
+            (459_869_426, 61_585_092),
+            (438_312_146, 55_452_098),
         ];
         assert_eq!(found, expected);
     }

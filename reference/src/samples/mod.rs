@@ -29,5 +29,7 @@ pub mod writer_edges;
 
 mod faults;
 mod near_limits;
+#[cfg(test)]
+mod other_roundings;
 mod sheet_faults;
 mod station_faults;

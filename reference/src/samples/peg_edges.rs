@@ -17,11 +17,12 @@ use std::collections::BTreeSet;
 /// Stations that no line reaches.
 pub const BEYOND: [u64; 2] = [1 << 63, u64::MAX];
 
-/// A curve, and lengths on its spirals, µm, where an offset changes if a rounding
-/// is left out or is another: to the nearest in place of down, or down at the last.
-/// To leave out those of t3 and t4 is of no account: the next ones follow.
+/// A curve, and lengths on its spirals, µm, at one of which an offset changes whatever
+/// quotient is rounded otherwise: to the nearest in place of down, not at all, or down
+/// at the last; and where t4, t5 or t6 is made of other powers, as t5 of t3 × t2. To
+/// leave out the roundings of t3, t5 and t6 is of no account: the next ones follow.
 pub const ROUNDED_CURVE: Curve = Curve::new(LARGE_DEFLECTION, 511_111, 499_999);
-pub const ROUNDED_LENGTHS: [u64; 3] = [359_440_799, 427_184_782, 450_233_553];
+pub const ROUNDED_LENGTHS: [u64; 4] = [414_242_305, 478_341_843, 493_244_504, 498_691_321];
 
 /// A line, a station and the room that is lent.
 #[derive(Clone, Debug)]

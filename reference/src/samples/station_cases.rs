@@ -1,5 +1,5 @@
 //! Sheets with a name for the station program: document 01's cases, one sheet
-//! for each refusal, a mountain road, and sheets of edition 2.
+//! for each refusal, a mountain road, an interchange ramp, and sheets of edition 2.
 
 use super::lines::{with_curve, with_first_distance};
 use super::mountain_road::mountain_road;
@@ -23,6 +23,7 @@ pub fn named_sheets() -> Vec<NamedSheet> {
     let mut sheets = document_cases();
     sheets.extend(refused_sheets());
     sheets.push(named("mountain-road", sheet_of(&mountain_road())));
+    sheets.push(named("ramp", sheet_of(&ramp())));
     sheets.push(named("empty", Vec::new()));
     sheets.extend(sheets_of_edition_2());
     sheets.extend(start_edges());
@@ -85,6 +86,18 @@ fn refused_sheets() -> Vec<NamedSheet> {
         named("refusal-14", road(deflection(FIRST, 33), 3_600)),
         named("refusal-15", road(distance(FIRST, last), 20_000)),
     ]
+}
+
+/// An interchange ramp: a loop to the right and one to the left, each with spirals as
+/// long as its radius (document 02, Interchange ramps).
+fn ramp() -> Line {
+    let curves = [
+        Curve::new(396_000, 60_000, 60_000),
+        Curve::new(378_000, 50_000, 50_000),
+    ];
+    let mut line = Line::new(40, 8, 350_000, &[150_000, 260_000, 120_000], &curves);
+    line.sides[1] = LEFT;
+    line
 }
 
 /// Cases 1, 9 and 10 and the mountain road in edition 2, and a road that only
@@ -208,6 +221,16 @@ mod tests {
         }
         assert_eq!(refusal("empty"), Some((1, 0)));
         assert_eq!(refusal("mountain-road"), None);
+    }
+
+    /// By TT of 118,979,279 and 92,645,322 µm and arcs of 55,191,731 and 41,629,786,
+    /// worked by another program.
+    #[test]
+    fn stations_of_the_ramp() {
+        let first = [381_020_721, 441_020_721, 496_212_452, 556_212_452];
+        let second = [604_587_851, 654_587_851, 696_217_637, 746_217_637];
+        let expected = [&first[..], &second, &[773_572_315]].concat();
+        assert_eq!(row(&sheet("ramp")), Ok(expected));
     }
 
     /// A program that reads one byte fewer accepts it.

@@ -13,11 +13,12 @@ pub fn rough_differences(Curve { a, r, l }: Curve) -> Differences {
     let rule = working_rule(a, r, l);
     let [a, r, l] = [a, r, l].map(f64::from);
     let s = l / (2.0 * r);
-    let (sine_of_s, cosine_of_s) = sine_and_cosine(s);
-    let (sine, cosine) = sine_and_cosine(a * PI / 1_296_000.0);
+    let (sine_of_s, cosine_of_s) = sine_and_cosine(s, TERMS);
+    let (sine, cosine) = sine_and_cosine(a * PI / 1_296_000.0, TERMS);
 
-    let x = l * (1.0 - s * s / 10.0 + s * s * s * s / 216.0);
-    let y = l * (s / 3.0 - s * s * s / 42.0);
+    let [s2, s3] = [s * s, s * s * s];
+    let x = l * (1.0 - s2 / 10.0 + s2 * s2 / 216.0 - s3 * s3 / 9_360.0);
+    let y = l * (s / 3.0 - s3 / 42.0 + s2 * s3 / 1_320.0);
     let k = x - r * sine_of_s;
     let p = y - r * (1.0 - cosine_of_s);
     let d = r * (a * PI / 648_000.0) - l;
@@ -36,11 +37,11 @@ fn subtract(rule: Elements, elements: [f64; 6]) -> [f64; 6] {
     differences
 }
 
-/// Sine and cosine of q by their power series: the library's may differ from
-/// machine to machine.
-fn sine_and_cosine(q: f64) -> (f64, f64) {
+/// Sine and cosine of q by this many terms of their power series: the library's may
+/// differ from machine to machine.
+pub fn sine_and_cosine(q: f64, terms: u32) -> (f64, f64) {
     let (mut sine, mut cosine) = (1.0, 1.0);
-    for j in (1..TERMS).rev().map(f64::from) {
+    for j in (1..terms).rev().map(f64::from) {
         sine = 1.0 - q * q * sine / (2.0 * j * (2.0 * j + 1.0));
         cosine = 1.0 - q * q * cosine / ((2.0 * j - 1.0) * 2.0 * j);
     }

@@ -4,7 +4,7 @@
 //! on every machine.
 
 mod curves;
-mod guide;
+pub(crate) mod guide;
 mod lines;
 
 use crate::accuracy::{CurveRecord, LineRecord};
@@ -31,7 +31,7 @@ pub fn search(seed: u64, curve_count: usize, line_count: usize) -> Findings {
 }
 
 /// Climbs from each of these starts, one at least, and gives the highest place.
-fn highest<T>(
+pub(crate) fn highest<T>(
     dice: &mut Dice,
     starts: Vec<T>,
     steps: usize,
@@ -70,7 +70,7 @@ fn climb<T>(
 }
 
 /// The curve with one of its fields changed, or all three; in range.
-fn changed(dice: &mut Dice, curve: &Curve) -> Curve {
+pub(crate) fn changed(dice: &mut Dice, curve: &Curve) -> Curve {
     let Curve {
         mut a,
         mut r,
@@ -91,7 +91,7 @@ fn changed(dice: &mut Dice, curve: &Curve) -> Curve {
 
 /// The number moved up or down, small steps as frequent as large ones, and kept
 /// from `least` to `most`.
-fn moved(dice: &mut Dice, number: u32, least: u32, most: u32) -> u32 {
+pub(crate) fn moved(dice: &mut Dice, number: u32, least: u32, most: u32) -> u32 {
     let step = dice.spread(1, most - least);
     if dice.once_in(2) {
         number.saturating_sub(step).max(least)

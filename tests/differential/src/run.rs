@@ -163,8 +163,8 @@ mod tests {
     use crate::input::{Call, Room};
     use crate::side::Library;
     use crate::spoilt::{
-        Spoilt, CONVERT_FAULTS, EDITION_FAULTS, HEIGHT_FAULTS, PEG_FAULTS, POINT_FAULTS,
-        WRITE_FAULTS,
+        Spoilt, CONVERT_FAULTS, EDITION_FAULTS, ELEMENT_FAULTS, HEIGHT_FAULTS, PEG_FAULTS,
+        POINT_FAULTS, WRITE_FAULTS,
     };
     use reference::refusal::refuse;
 
@@ -235,7 +235,25 @@ mod tests {
         reports.next()
     }
 
-    /// Each fault of pegs shows in the inputs with a name, and in random ones.
+    /// Each fault of elements shows in the inputs with a name, and in random ones.
+    #[test]
+    fn faulty_elements_are_reported() {
+        let inputs = Inputs::of(1);
+        let kinds = indexes_of(&inputs, Call::Elements);
+        for (fault, elements) in ELEMENT_FAULTS {
+            let library = Spoilt {
+                elements,
+                ..Spoilt::NOT
+            };
+            for indexes in &kinds {
+                let found = first_report(&inputs, indexes, &library).expect(fault);
+                assert!(found.contains("\ncall         elements\n"), "{found}");
+                assert!(found.contains("\ncurve A R L  "), "{found}");
+            }
+        }
+    }
+
+    /// Each fault of pegs likewise.
     #[test]
     fn faulty_pegs_are_reported() {
         let inputs = Inputs::of(1);

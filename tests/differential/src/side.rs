@@ -124,11 +124,7 @@ impl Side for Reference {
     }
 
     fn elements(&self, Curve { a, r, l }: Curve, numbers: &mut [u64]) -> Answer {
-        let Elements { x, y, k, p, d, tt } = elements(a, r, l)?;
-        let found = [x, y, k, p, d, tt].map(|length| {
-            u64::try_from(length).expect("no element of an accepted curve is below zero")
-        });
-        fill(numbers, &found)
+        fill_elements(elements(a, r, l)?, numbers)
     }
 
     fn text(&self, sheet: &[u8], text: &mut [u8]) -> Answer {
@@ -168,6 +164,15 @@ impl Side for Reference {
     fn height(&self, profile: &[i64], station: u64, numbers: &mut [i64]) -> Answer {
         height(profile, station, numbers)
     }
+}
+
+/// The elements of an accepted curve at the front of the lent numbers.
+pub fn fill_elements(elements: Elements, numbers: &mut [u64]) -> Answer {
+    let Elements { x, y, k, p, d, tt } = elements;
+    let found = [x, y, k, p, d, tt].map(|length| {
+        u64::try_from(length).expect("no element of an accepted curve is below zero")
+    });
+    fill(numbers, &found)
 }
 
 /// The text of a sheet of any length. `report` looks at 707 bytes only, as the

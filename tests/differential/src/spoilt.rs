@@ -1,11 +1,16 @@
 //! A side for tests of the comparison: the reference, its answers and what it
-//! wrote changed; and faults of pegs, of lines from coordinates, of heights and of
-//! editions.
+//! wrote changed; and faults of elements, of pegs, of lines from coordinates, of
+//! heights and of editions.
 
-use crate::side::{stretches_of, Answer, Reference, Side};
+use crate::side::{fill_elements, stretches_of, Answer, Reference, Side};
 use reference::curve::Curve;
 use reference::edition::{Edition, FIRST};
+use reference::elements::{
+    elements, quotient, rule_with, shorter_x_ratio, shorter_y_ratio, x_ratio, y_ratio, Ratios,
+    RATIOS, SCALE, SHORTER_RATIOS,
+};
 use reference::line::{Line, LEFT};
+use reference::pegs::offsets_with;
 use reference::points::{reached, Heading, GREATEST_COORDINATE, GREATEST_TURN};
 use reference::profile::{Profile, STATIONS};
 use reference::refusal::{refuse, Refusal};
@@ -17,6 +22,9 @@ use reference::sight::stopping_distance;
 
 /// How the answer and the lent entries of a call are changed.
 pub type Change<T> = fn(Answer, &mut [T]) -> Answer;
+
+/// How the elements of a curve are worked out.
+pub type ElementsCall = fn(Curve, &mut [u64]) -> Answer;
 
 /// How a peg is worked out.
 pub type PegCall = fn(&[u8], u64, &mut [i64]) -> Answer;
@@ -48,7 +56,8 @@ pub struct Spoilt {
     pub line: Change<u32>,
     /// Of `peg` and `height`, which are lent signed numbers.
     pub signed: Change<i64>,
-    /// Before that, the peg itself.
+    /// Before that, the elements and the peg themselves.
+    pub elements: ElementsCall,
     pub peg: PegCall,
     /// The same of the line that is made of points.
     pub points: PointsCall,
@@ -70,6 +79,7 @@ impl Spoilt {
         bytes: |answer, _| answer,
         line: |answer, _| answer,
         signed: |answer, _| answer,
+        elements: |curve, numbers| Reference.elements(curve, numbers),
         peg: |sheet, station, numbers| Reference.peg(sheet, station, numbers),
         points: |heading, points, curves, line| {
             Reference.line_from_points(heading, points, curves, line)
@@ -96,7 +106,7 @@ impl Side for Spoilt {
     }
 
     fn elements(&self, curve: Curve, numbers: &mut [u64]) -> Answer {
-        (self.numbers)(Reference.elements(curve, numbers), numbers)
+        (self.numbers)((self.elements)(curve, numbers), numbers)
     }
 
     fn text(&self, sheet: &[u8], text: &mut [u8]) -> Answer {
@@ -138,15 +148,66 @@ impl Side for Spoilt {
     }
 }
 
+/// Faults of elements: other last terms of x and y.
+pub const ELEMENT_FAULTS: [(&str, ElementsCall); 7] = [
+    (
+        "x and y have source document 002's terms",
+        |curve, numbers| elements_with(SHORTER_RATIOS, curve, numbers),
+    ),
+    ("x does not lose t6/9360", |curve, numbers| {
+        let x = shorter_x_ratio;
+        elements_with(Ratios { x, ..RATIOS }, curve, numbers)
+    }),
+    ("y does not gain t5/1320", |curve, numbers| {
+        let y = shorter_y_ratio;
+        elements_with(Ratios { y, ..RATIOS }, curve, numbers)
+    }),
+    ("x gains t6/9360", |curve, numbers| {
+        let x = |t| 2 * shorter_x_ratio(t) - x_ratio(t);
+        elements_with(Ratios { x, ..RATIOS }, curve, numbers)
+    }),
+    ("y loses t5/1320", |curve, numbers| {
+        let y = |t| 2 * shorter_y_ratio(t) - y_ratio(t);
+        elements_with(Ratios { y, ..RATIOS }, curve, numbers)
+    }),
+    ("x loses t6/936", |curve, numbers| {
+        let x = |t| shorter_x_ratio(t) - quotient(cube(square(t)), 936);
+        elements_with(Ratios { x, ..RATIOS }, curve, numbers)
+    }),
+    ("t5 is t3 × t", |curve, numbers| {
+        let y = |t| shorter_y_ratio(t) + quotient(square(square(t)), 1_320);
+        elements_with(Ratios { y, ..RATIOS }, curve, numbers)
+    }),
+];
+
+fn square(t: i128) -> i128 {
+    quotient(t * t, SCALE)
+}
+
+fn cube(t: i128) -> i128 {
+    quotient(square(t) * t, SCALE)
+}
+
+/// The elements with these x and y.
+fn elements_with(ratios: Ratios, curve: Curve, numbers: &mut [u64]) -> Answer {
+    let Curve { a, r, l } = curve;
+    elements(a, r, l)?;
+    fill_elements(rule_with(ratios, a, r, l), numbers)
+}
+
 /// Where the numbers of a peg stand.
 const KIND: usize = 0;
 const NUMBER: usize = 1;
 const LENGTH: usize = 2;
+const X: usize = 3;
 const Y: usize = 4;
+const SPIRAL_IN: i64 = 1;
 const SPIRAL_OUT: i64 = 3;
 
 /// Faults of pegs.
-pub const PEG_FAULTS: [(&str, PegCall); 8] = [
+pub const PEG_FAULTS: [(&str, PegCall); 10] = [
+    ("x does not lose t6/9360", x_of_fewer_terms),
+    ("y does not gain t5/1320", y_of_fewer_terms),
     ("y is not negated on a left curve", without_sides),
     ("the length on the spiral out runs from CS", out_from_cs),
     ("a shared station is the former element's", of_the_former),
@@ -156,6 +217,33 @@ pub const PEG_FAULTS: [(&str, PegCall); 8] = [
     ("16 comes before 17", small_buffer_first),
     ("6 for a start beyond edition 1", near_starts_only),
 ];
+
+fn x_of_fewer_terms(sheet: &[u8], station: u64, numbers: &mut [i64]) -> Answer {
+    let answer = Reference.peg(sheet, station, numbers)?;
+    if let Some((x, _)) = offsets_of_fewer_terms(sheet, numbers) {
+        numbers[X] = x as i64;
+    }
+    Ok(answer)
+}
+
+fn y_of_fewer_terms(sheet: &[u8], station: u64, numbers: &mut [i64]) -> Answer {
+    let answer = Reference.peg(sheet, station, numbers)?;
+    if let Some((_, y)) = offsets_of_fewer_terms(sheet, numbers) {
+        numbers[Y] = y as i64 * numbers[Y].signum();
+    }
+    Ok(answer)
+}
+
+/// The offsets of a peg on a spiral, as on a right curve, with source document 002's
+/// terms.
+fn offsets_of_fewer_terms(sheet: &[u8], numbers: &[i64]) -> Option<(i128, i128)> {
+    if !matches!(numbers[KIND], SPIRAL_IN | SPIRAL_OUT) {
+        return None;
+    }
+    let curve = sheet::line_of(sheet).ok()?.curve(numbers[NUMBER] as usize);
+    let length = numbers[LENGTH] as u64;
+    Some(offsets_with(SHORTER_RATIOS, curve, length))
+}
 
 fn near_starts_only(sheet: &[u8], station: u64, numbers: &mut [i64]) -> Answer {
     if start_of(sheet).is_some_and(is_far) {

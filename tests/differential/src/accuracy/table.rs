@@ -110,9 +110,9 @@ mod tests {
         };
         let counts = "1 lines, seed 3: 1 accepted (0 of 64 curves), 0 refused 14, 0 refused 15; ";
         assert_eq!(words(counts), "1 curves of accepted lines");
-        assert_eq!(words("TT "), "300 0.000 1.069 177764 350000 40000");
+        assert_eq!(words("TT "), "300 0.000 1.061 177764 350000 40000");
         assert!(words("peg x ").starts_with("4 -"));
-        assert_eq!(words("CS / i "), "700 -1.300 0.000 curve 1 of 1");
+        assert_eq!(words("CS / i "), "700 -1.291 0.000 curve 1 of 1");
         assert_eq!(
             words("arc, accepted "),
             "> 0.9 261638.467230 arc 1 of 1 curves, 177764 350000 40000"

@@ -13,10 +13,11 @@ use reference::refusal::Refusal;
 use reference::samples::dice::Dice;
 use reference::samples::sheet_fields::sheet_of;
 
-/// The elements and their bounds, µm (document 01, Clerk's sums).
+/// The elements and their bounds, µm (document 01, Clerk's sums; those of X and Y
+/// document 02, Interchange ramps).
 const ELEMENTS: [(&str, u64); 6] = [
-    ("X", 2),
-    ("Y", 2),
+    ("X", 3),
+    ("Y", 3),
     ("k", 30),
     ("p", 30),
     ("D", 6),
@@ -279,6 +280,7 @@ fn arc_place(line: &Line, i: usize) -> String {
 mod tests {
     use super::*;
     use crate::side::{Library, Reference};
+    use crate::spoilt::{Change, Spoilt};
     use reference::line::RIGHT;
 
     fn close(a: f64, b: f64) -> bool {
@@ -298,14 +300,14 @@ mod tests {
         }
         let counts = [watched.accepted, watched.refused_14, watched.refused_15];
         assert_eq!(counts, [2, 1, 1]);
-        assert!(close(watched.elements[5].above, 1.068_387_509));
-        assert!(close(watched.stations[0].below, -1.068_387_509));
-        assert!(watched.offsets[0].above >= 0.250_003_856);
-        assert!(close(watched.stations_over[END].below, -2.367_419_442));
+        assert!(close(watched.elements[5].above, 1.060_048_508));
+        assert!(close(watched.stations[0].below, -1.060_048_508));
+        assert!(watched.offsets[0].above >= 0.250_152_640);
+        assert!(close(watched.stations_over[END].below, -2.350_741_440));
         let nearest = |lengths: &Lengths| lengths.nearest.clone().unwrap().0;
         assert!(close(nearest(&watched.refused_arc), -0.204_833_217));
         assert!(close(nearest(&watched.accepted_arc), 261_638.467_230_644));
-        let refused = 180_990.0 - 180_989.278_931_612;
+        let refused = 180_990.0 - 180_989.278_939_951;
         assert!(close(nearest(&watched.refused_straight), refused));
     }
 
@@ -327,7 +329,35 @@ mod tests {
         assert!(Watched::new().see_stations(&line, &row[..4]).is_err());
     }
 
-    /// Case 1's peg at CS: its x lies 0.25 µm above the exact one, its y 0.06 below.
+    /// Case 1's elements: X lies 0.25 µm above the exact one, Y 0.08 below.
+    #[test]
+    fn moved_elements_break_the_claims() {
+        let moved: [(Change<u64>, bool); 8] = [
+            (|answer, numbers| moved(answer, &mut numbers[0], 2), true),
+            (|answer, numbers| moved(answer, &mut numbers[0], 3), false),
+            (|answer, numbers| moved(answer, &mut numbers[0], -3), true),
+            (|answer, numbers| moved(answer, &mut numbers[0], -4), false),
+            (|answer, numbers| moved(answer, &mut numbers[1], 3), true),
+            (|answer, numbers| moved(answer, &mut numbers[1], 4), false),
+            (|answer, numbers| moved(answer, &mut numbers[1], -2), true),
+            (|answer, numbers| moved(answer, &mut numbers[1], -3), false),
+        ];
+        for (i, (numbers, holds)) in moved.into_iter().enumerate() {
+            let library = Spoilt {
+                numbers,
+                ..Spoilt::NOT
+            };
+            let seen = Watched::new().see_elements(&library, Line::case_1().curve(1));
+            assert_eq!(seen.is_ok(), holds, "{i}");
+        }
+    }
+
+    fn moved(answer: Answer, number: &mut u64, by: i64) -> Answer {
+        *number = number.checked_add_signed(by).unwrap();
+        answer
+    }
+
+    /// Case 1's peg at CS: its x lies 0.25 µm above the exact one, its y 0.08 below.
     #[test]
     fn moved_pegs_break_the_claims() {
         let mut line = Line::case_1();

@@ -158,7 +158,14 @@ fn edges_of_the_calculator(dice: &mut Dice) -> Vec<NamedRequest> {
 }
 
 fn curves() -> Vec<NamedRequest> {
-    [curves::document_cases(), curves::edges(), halves::curves()]
+    let curves = [
+        curves::document_cases(),
+        curves::edges(),
+        curves::long_spirals(),
+        curves::rounded_curves(),
+        halves::curves(),
+    ];
+    curves
         .concat()
         .into_iter()
         .map(|curve| request_of(curve, |curve| (Request::Elements(curve), Room::Needed(0))))
@@ -429,20 +436,20 @@ mod tests {
         assert_eq!(
             counts,
             [
-                47 * 8,
+                48 * 8,
                 of_the_reader,
                 of_the_calculator,
-                8 + 469 + 17,
+                8 + 469 + 48 + 3 + 17,
                 2 * 193,
                 93 + 91,
                 4 * 12,
-                1_663 + 6 + 16 + 8,
+                1_663 + 8 + 16 + 8,
                 1_054,
                 1_988,
                 454,
             ]
         );
-        let without_room = 7_042;
+        let without_room = 7_054;
         let all = counts.iter().sum::<usize>() + without_room;
         assert_eq!(named_requests().len(), all);
     }
