@@ -52,6 +52,9 @@ const ROWS: [(&str, Spirals); 4] = [
     ("any L up to R", Spirals::Any),
 ];
 
+/// Deflections with which the spirals of a row are worked.
+const DEFLECTIONS: usize = 4;
+
 /// Climbs for each difference, each of half the count of steps.
 const CLIMBS: usize = 4;
 
@@ -88,19 +91,19 @@ fn figures(ratios: Ratios, worst: Worst) -> Differences {
 /// What the papers leave out grows with the spiral, its angle and, for TT, the
 /// deflection; the roundings add to it. Where L decides R, the `count` greatest
 /// deflections are worked with the longest spiral, then the `count` longest spirals with
-/// the worst of these: X, Y, k and p take no account of it. Last, the radii and spirals
-/// next to the longest that is as long as its radius, with the worst deflection there,
-/// `count` random curves, and the worst of the other rows. From the worst of all climbs
-/// go on.
+/// each of the worst of these: X, Y, k and p take no account of it. Last, the radii and
+/// spirals next to the longest that is as long as its radius, with the worst deflection
+/// there, `count` random curves, and the worst of the other rows. From the worst of all
+/// climbs go on.
 fn worst_of_rule(seed: u64, ratios: Ratios, count: usize) -> Vec<Worst> {
     let mut dice = Dice::new(seed);
     let mut rows: Vec<Worst> = Vec::new();
     for (_, spirals) in ROWS {
         let worst = match spirals {
             Spirals::RadiusOver(part) => {
-                let greatest = worst_of(ratios, greatest_deflections(part, count));
-                let longest = longest_spirals(part, greatest[TT].a, count);
-                worst_of(ratios, longest.chain(greatest))
+                let deflections = worst_deflections(ratios, part, count).into_iter();
+                let curves = deflections.flat_map(|a| longest_spirals(part, a, count));
+                worst_of(ratios, curves)
             }
             Spirals::Any => {
                 let former = rows.iter().flatten().copied();
@@ -142,11 +145,22 @@ fn is_accepted(curve: &Curve) -> bool {
     check_arc(curve.a, curve.r, curve.l).is_ok()
 }
 
-/// The greatest deflections with the longest spiral, R being L times `part`.
-fn greatest_deflections(part: u32, count: usize) -> impl Iterator<Item = Curve> {
+/// Those of the `count` greatest deflections with which TT differs most at the longest
+/// spiral, R being L times `part`.
+fn worst_deflections(ratios: Ratios, part: u32, count: usize) -> Vec<u32> {
     let [_, l] = lengths(part);
     let deflections = (1..=GREATEST_DEFLECTION).rev().take(count);
-    deflections.map(move |a| Curve::new(a, part * l, l))
+    let curves = deflections.map(|a| Curve::new(a, part * l, l));
+    let mut worst: Vec<(f64, u32)> = curves
+        .filter(is_accepted)
+        .map(|curve| (rough_differences(ratios, curve)[TT].abs(), curve.a))
+        .collect();
+    worst.sort_by(|(a, _), (b, _)| b.total_cmp(a));
+    worst
+        .into_iter()
+        .map(|(_, a)| a)
+        .take(DEFLECTIONS)
+        .collect()
 }
 
 /// The longest spirals with this deflection, R being L times `part`.
