@@ -14,14 +14,7 @@ use Rattle.numbers.specs.Fractions.{nat}
 use Rattle.accuracy.specs.ExactStations.{exactSpiralAt, exactArcAt, exactTangentAt, exactTangentBefore, exactTangentAfter, exactStraightAt, exactFormerST, exactPointsAt, exactEnd}
 use Rattle.accuracy.proofs.Nearness.{Near, loosen, near-nat, near-sum, near-difference}
 use Rattle.accuracy.proofs.NearElements.{near-D}
-use Rattle.accuracy.proofs.Tangent.{near-TT}
-
--- The error of a tangent, short and over, and of one that is 0 at an end of the line.
-abbrev shortTangent : ℕ
-shortTangent = 234931
-
-abbrev overTangent : ℕ
-overTangent = 211825
+use Rattle.accuracy.proofs.Tangent.{shortTangent, overTangent, near-TT}
 
 -- The error of a point of the curve at entry i.
 abbrev pub pointError : ℕ → ℕ

@@ -20,6 +20,13 @@ use Rattle.accuracy.proofs.Angles.{near-half-sine, near-half-cosine}
 use Rattle.accuracy.proofs.Ratio.{above-zero, ratio-sign, ratio-most, near-ratio}
 use Rattle.accuracy.proofs.NearElements.{near-rounded, near-k, near-p}
 
+-- The errors of a tangent, short and over, in thousandths of a µm.
+abbrev pub shortTangent : ℕ
+shortTangent = 234931
+
+abbrev pub overTangent : ℕ
+overTangent = 211825
+
 quotient-most : (u d n e a b : ℕ) → 1000 * (scale * u) ≤ 1000 * (a * d) + 4252 * d → 1000 * (b * e) ≤ 1000 * (scale * n) + 4709 * e
     → a ≤ 1047197551 → 451688645 ≤ b → scale * u * e ≤ 2318405787 * (d * n)
 quotient-most u d n e a b h k m l =
@@ -102,7 +109,7 @@ module _ (A R L : ℕ) (ok : CurveInRange A R L) (n : ℕ) (seven : 7 ≤ n) whe
   near-base =
       near-sum (near-nat 1000 R) (near-value shift (near-p A R L ok n seven))
 
-  pub near-TT : Near 1000 (tangentOf A R L) (exactTangent n A R L) 234931 211825
+  pub near-TT : Near 1000 (tangentOf A R L) (exactTangent n A R L) shortTangent overTangent
   unfolding tangentOf exactTangent exactTan sine cosine
   near-TT =
       rw (shift .same, tan-is)
