@@ -1,6 +1,6 @@
--- The claims at single curves and lines, by computation: the exact values of document 01's case 1 to nine decimals of a mm, the bounds at the
--- greatest deflection and spiral angle, and lines with a large difference, with two curves, with short straights and with a short arc. Assumes
--- nothing.
+-- The claims at single curves and lines, by computation: the exact values of document 01's case 1 and of a ramp to nine decimals of a mm, the
+-- bounds at the greatest deflection and spiral angle, and lines with a large difference, with two curves, with short straights and with a short
+-- arc. Assumes nothing.
 use mathlib.Core.Path.{_≡_, refl}
 use mathlib.Core.Bool.{false}
 use mathlib.Core.List.{_∷_}
@@ -14,7 +14,7 @@ use Rattle.refusals.specs.Filling.{filled, unfilled, withRoom, fill}
 use Rattle.line.specs.declared.Curve.{Curve}
 use Rattle.line.specs.declared.Line.{Line}
 use Rattle.line.specs.Checks.{startCheck, headChecks, distanceCheck, curveChecks, bodyChecks, fieldChecks}
-use Rattle.elements.specs.WorkingRule.{rounded, fullAngle, halfAngle, spiralAngle, term, alternating, sineOf, cosineOf, t2, t3, t4, t6, t5, unitX, unitY, spiralX, spiralY, centreOf, shiftOf, arcOf, tanOf, tangentOf}
+use Rattle.elements.specs.WorkingRule.{rounded, fullAngle, halfAngle, spiralAngle, term, alternating, sineOf, cosineOf, t2, t3, t4, t5, t6, unitX, unitY, spiralX, spiralY, centreOf, shiftOf, arcOf, tanOf, tangentOf}
 use Rattle.elements.specs.Answer.{arcCheck}
 use Rattle.elements.specs.SpiralPoint.{partTo, angleTo, offsetX, offsetY}
 use Rattle.line.specs.Speeds.{underSpeed}
@@ -131,7 +131,7 @@ pub record Examples : Type 0 where
   pub case-7-arc : exactArcAt (shortArc 23573) 0 ≺ tenths refusedArc
 
 pub examples : Examples
-unfolding firstOf startCheck headChecks distanceCheck curveChecks bodyChecks fieldChecks arcCheck underSpeed frictionAt leastSpiralAt radiusServes spiralServes designChecks designChecksAt straightCheck alignmentChecks withRoom fill stationsIn rounded fullAngle halfAngle spiralAngle term alternating sineOf cosineOf t2 t3 t4 t6 t5 unitX unitY spiralX spiralY centreOf shiftOf arcOf tanOf tangentOf spiralAt arcAt tangentAt tangentBefore tangentAfter straightAt formerST pointsAt endOf curveStations stationsOf stationRow whole _⊕_ _⊖_ _⊗_ _↑_ _⊘_ over ratio exactPi exactAngle exactHalfAngle exactSpiralAngle alternatingSum factorial exactSine exactCosine exactX exactY exactCentre exactShift exactArc exactTan exactTangent exactSpiralAt exactArcAt exactTangentAt exactTangentBefore exactTangentAfter exactStraightAt exactFormerST exactPointsAt exactEnd exactAngleTo exactOffsetX exactOffsetY partTo angleTo offsetX offsetY
+unfolding firstOf startCheck headChecks distanceCheck curveChecks bodyChecks fieldChecks arcCheck underSpeed frictionAt leastSpiralAt radiusServes spiralServes designChecks designChecksAt straightCheck alignmentChecks withRoom fill stationsIn rounded fullAngle halfAngle spiralAngle term alternating sineOf cosineOf t2 t3 t4 t5 t6 unitX unitY spiralX spiralY centreOf shiftOf arcOf tanOf tangentOf spiralAt arcAt tangentAt tangentBefore tangentAfter straightAt formerST pointsAt endOf curveStations stationsOf stationRow whole _⊕_ _⊖_ _⊗_ _↑_ _⊘_ over ratio exactPi exactAngle exactHalfAngle exactSpiralAngle alternatingSum factorial exactSine exactCosine exactX exactY exactCentre exactShift exactArc exactTan exactTangent exactSpiralAt exactArcAt exactTangentAt exactTangentBefore exactTangentAfter exactStraightAt exactFormerST exactPointsAt exactEnd exactAngleTo exactOffsetX exactOffsetY partTo angleTo offsetX offsetY
 examples =
     record {
       sine-of-1 = equal tt tt;

@@ -5,7 +5,7 @@ use lib.IntN.{pos}
 use lib.ListN.{take, replicate}
 use Rattle.refusals.specs.Outcomes.{refused}
 use Rattle.line.specs.Entries.{entries}
-use Rattle.elements.specs.WorkingRule.{rounded, fullAngle, halfAngle, spiralAngle, term, alternating, sineOf, cosineOf, t2, t3, t4, t6, t5, unitX, unitY, spiralX, spiralY, centreOf, shiftOf, arcOf, tanOf, tangentOf}
+use Rattle.elements.specs.WorkingRule.{rounded, fullAngle, halfAngle, spiralAngle, term, alternating, sineOf, cosineOf, t2, t3, t4, t5, t6, unitX, unitY, spiralX, spiralY, centreOf, shiftOf, arcOf, tanOf, tangentOf}
 use Rattle.stationing.specs.Stations.{arcAt, tangentAt, tangentBefore, tangentAfter, straightAt}
 use Rattle.stationing.proofs.Examples.{caseLine}
 use Rattle.calculator.specs.Lengths.{lengthsBy, lengthsAfter}
@@ -17,5 +17,5 @@ pub record Examples : Type 0 where
       ≡ record { straights = replicate 65 (pos 0); arcs = replicate 64 (pos 0) }
 
 pub examples : Examples
-unfolding entries rounded fullAngle halfAngle spiralAngle term alternating sineOf cosineOf t2 t3 t4 t6 t5 unitX unitY spiralX spiralY centreOf shiftOf arcOf tanOf tangentOf arcAt tangentAt tangentBefore tangentAfter straightAt lengthsBy
+unfolding entries rounded fullAngle halfAngle spiralAngle term alternating sineOf cosineOf t2 t3 t4 t5 t6 unitX unitY spiralX spiralY centreOf shiftOf arcOf tanOf tangentOf arcAt tangentAt tangentBefore tangentAfter straightAt lengthsBy
 examples = record { straights = refl; arcs = refl; none = refl }

@@ -65,8 +65,8 @@ fn fill(line: Line, lengths: LineLengths, row: &mut [u64]) -> FillAnswer
     FillAnswer::Count(count)
 }
 
-// The stations of a line by document 01's working rule (after source document 002), in µm: TS, SC, CS and ST of each curve in
-// order, then the end, at the front of `row`. Answers how many there are, 4 × n + 1, or the first refusal in document 01's
+// The stations of a line by document 01's working rule (after source document 002, with document 02's changes), in µm: TS, SC, CS and ST
+// of each curve in order, then the end, at the front of `row`. Answers how many there are, 4 × n + 1, or the first refusal in document 01's
 // order: 3 to 6, 8 to 11, then 12, 13, 14 curve by curve, then 15 by ascending distance, then 16; a refusal leaves `row` as
 // it was. Any line and any row are taken; unused entries and the sides of the curves change nothing.
 pub fn stations(line: Line, row: &mut [u64]) -> FillAnswer

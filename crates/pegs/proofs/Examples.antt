@@ -12,7 +12,7 @@ use Rattle.refusals.specs.Replying.{Reply, answered, declined, reply}
 use Rattle.line.specs.declared.Curve.{Curve}
 use Rattle.line.specs.declared.Line.{Line}
 use Rattle.line.specs.Checks.{startCheck, headChecks, distanceCheck, curveChecks, bodyChecks, fieldChecks}
-use Rattle.elements.specs.WorkingRule.{rounded, fullAngle, halfAngle, spiralAngle, term, alternating, sineOf, cosineOf, t2, t3, t4, t6, t5, unitX, unitY, spiralX, spiralY, centreOf, shiftOf, arcOf, tanOf, tangentOf}
+use Rattle.elements.specs.WorkingRule.{rounded, fullAngle, halfAngle, spiralAngle, term, alternating, sineOf, cosineOf, t2, t3, t4, t5, t6, unitX, unitY, spiralX, spiralY, centreOf, shiftOf, arcOf, tanOf, tangentOf}
 use Rattle.elements.specs.Answer.{arcCheck}
 use Rattle.elements.specs.SpiralPoint.{partTo, angleTo, offsetX, offsetY}
 use Rattle.stationing.specs.declared.ElementKind.{ElementKind}
@@ -113,7 +113,7 @@ pub record Examples : Type 0 where
       ≡ pos 2 ∷ pos 7 ∷ pos 8 ∷ pos 9 ∷ pos 10 ∷ []
 
 pub examples : Examples
-unfolding firstOf startCheck headChecks distanceCheck curveChecks bodyChecks fieldChecks rounded fullAngle halfAngle spiralAngle term alternating sineOf cosineOf t2 t3 t4 t6 t5 unitX unitY spiralX spiralY centreOf shiftOf arcOf tanOf tangentOf arcCheck underSpeed frictionAt leastSpiralAt radiusServes spiralServes spiralAt arcAt tangentAt tangentBefore tangentAfter straightAt formerST designChecks designChecksAt straightCheck alignmentChecks elementsFrom elementsOf total lineLength placedFrom placedElements partTo angleTo offsetX offsetY alongLine holds lastStraight holding elementUnder pegBy stationCheck pegChecks reply pegReply stationNumbers withRoom fill
+unfolding firstOf startCheck headChecks distanceCheck curveChecks bodyChecks fieldChecks rounded fullAngle halfAngle spiralAngle term alternating sineOf cosineOf t2 t3 t4 t5 t6 unitX unitY spiralX spiralY centreOf shiftOf arcOf tanOf tangentOf arcCheck underSpeed frictionAt leastSpiralAt radiusServes spiralServes spiralAt arcAt tangentAt tangentBefore tangentAfter straightAt formerST designChecks designChecksAt straightCheck alignmentChecks elementsFrom elementsOf total lineLength placedFrom placedElements partTo angleTo offsetX offsetY alongLine holds lastStraight holding elementUnder pegBy stationCheck pegChecks reply pegReply stationNumbers withRoom fill
 examples =
     record {
       start = refl;

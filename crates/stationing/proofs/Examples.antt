@@ -1,4 +1,4 @@
--- Document 01's cases 1 to 5 and 9, and the tables, orders, places and limits of 12 to 15, from the definitions. Assumes nothing.
+-- Document 01's cases 1 to 5 and 9, a ramp, and the tables, orders, places and limits of 12 to 15, from the definitions. Assumes nothing.
 use mathlib.Core.Path.{_≡_, refl}
 use mathlib.Core.Bool.{Bool, true, false, not, _&&_}
 use mathlib.Core.List.{List, [], _∷_}
@@ -10,7 +10,7 @@ use Rattle.refusals.specs.Filling.{filled, unfilled, withRoom, fill}
 use Rattle.line.specs.declared.Curve.{Curve}
 use Rattle.line.specs.declared.Line.{Line}
 use Rattle.line.specs.Checks.{startCheck, headChecks, distanceCheck, curveChecks, bodyChecks, fieldChecks}
-use Rattle.elements.specs.WorkingRule.{rounded, fullAngle, halfAngle, spiralAngle, term, alternating, sineOf, cosineOf, t2, t3, t4, t6, t5, unitX, unitY, spiralX, spiralY, centreOf, shiftOf, arcOf, tanOf, tangentOf}
+use Rattle.elements.specs.WorkingRule.{rounded, fullAngle, halfAngle, spiralAngle, term, alternating, sineOf, cosineOf, t2, t3, t4, t5, t6, unitX, unitY, spiralX, spiralY, centreOf, shiftOf, arcOf, tanOf, tangentOf}
 use Rattle.elements.specs.Answer.{arcCheck}
 use Rattle.line.specs.Speeds.{underSpeed}
 use Rattle.stationing.specs.RoadTables.{frictionAt, leastSpiralAt, radiusServes, spiralServes}
@@ -110,7 +110,7 @@ pub record Examples : Type 0 where
   pub last-straight : stationsIn (lineOf 1 (500000 ∷ 180990 ∷ []) (curve1 350000 40000 ∷ [])) row .reply ≡ unfilled 15 1
 
 pub examples : Examples
-unfolding firstOf startCheck headChecks distanceCheck curveChecks bodyChecks fieldChecks rounded fullAngle halfAngle spiralAngle term alternating sineOf cosineOf t2 t3 t4 t6 t5 unitX unitY spiralX spiralY centreOf shiftOf arcOf tanOf tangentOf arcCheck underSpeed frictionAt leastSpiralAt radiusServes spiralServes spiralAt arcAt tangentAt tangentBefore tangentAfter straightAt formerST pointsAt endOf curveStations stationsOf stationRow designChecks designChecksAt straightCheck alignmentChecks withRoom fill stationsIn
+unfolding firstOf startCheck headChecks distanceCheck curveChecks bodyChecks fieldChecks rounded fullAngle halfAngle spiralAngle term alternating sineOf cosineOf t2 t3 t4 t5 t6 unitX unitY spiralX spiralY centreOf shiftOf arcOf tanOf tangentOf arcCheck underSpeed frictionAt leastSpiralAt radiusServes spiralServes spiralAt arcAt tangentAt tangentBefore tangentAfter straightAt formerST pointsAt endOf curveStations stationsOf stationRow designChecks designChecksAt straightCheck alignmentChecks withRoom fill stationsIn
 examples =
     record {
       case-1 = refl;
