@@ -48,11 +48,11 @@ pub record Examples : Type 0 where
   pub each-quotient-7 : elementReply 400000 512756 499931 ≡ elements 488180118 79869209 247998372 20137982 494433495 1024976809
   pub each-quotient-8 : elementReply 411032 1810086 342277 ≡ elements 341971159 10780221 171087519 2695917 3264752633 2971911478
   pub each-quotient-9 : elementReply 388650 663325 74646 ≡ elements 74622371 1399707 37319062 349966 1175209784 950091153
-  -- ---- document 02, N7: the least angles at which the last term of y and of x is one, and the least spirals at which it tells
+  -- ---- document 02, N7: the least angles at which the last term of y and of x is one, and short spirals at which it tells
   pub first-of-y : elementReply 400000 3747318 499882 ≡ elements 499659663 11110285 249903939 2778011 6767122134 5717677711
   pub first-of-x : elementReply 400000 1721995 499967 ≡ elements 498914368 24157152 249807993 6043838 2839419938 2769350268
-  pub least-of-y : elementReply 400000 20000 2789 ≡ elements 2787644 64799 1394274 16203 35996094 30578612
-  pub least-of-x : elementReply 400000 20000 5838 ≡ elements 5825576 283587 2916928 70951 32947094 32181091
+  pub short-spiral-y : elementReply 400000 20000 2789 ≡ elements 2787644 64799 1394274 16203 35996094 30578612
+  pub short-spiral-x : elementReply 400000 20000 5838 ≡ elements 5825576 283587 2916928 70951 32947094 32181091
   -- ---- a ramp whose spirals are as long as its radius, as elements of the definition; it has no arc
   pub ramp : valuesBy 200000 500000 500000
       ≡ record { X = pos 487643841; Y = pos 81857075; k = pos 247931072; p = pos 20648355; D = negsuc 15186318; TT = pos 522179793 }
@@ -120,8 +120,8 @@ examples =
       each-quotient-9 = refl;
       first-of-y = refl;
       first-of-x = refl;
-      least-of-y = refl;
-      least-of-x = refl;
+      short-spiral-y = refl;
+      short-spiral-x = refl;
       ramp = refl;
       ramp-refused = refl;
       deflection-refused = refl;

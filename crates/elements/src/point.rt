@@ -57,7 +57,7 @@ fn point_or_outside(radius: u64, spiral: u64, length: u64) -> PointAnswer
     PointAnswer::Found(point)
 }
 
-// The offsets x and y of a point of a spiral, in µm, along the tangent at its outer end (TS or ST) and square to it, by document 01's
+// The offsets x and y of a point of a spiral, in µm, along the tangent at its outer end (TS or ST) and square to it, by the working rule's
 // unit spiral at the angle of the point; each is within 4 µm of the exact one. Radius and spiral are in mm, the length from the outer
 // end in µm. Any values are taken: the first of refusals 10, 11 and 17, for a length beyond the spiral, is answered, with place 0.
 pub fn spiral_point(radius: u32, spiral: u32, length: u64) -> PointAnswer

@@ -169,8 +169,8 @@ fn elements_or_short(deflection: u64, radius: u64, spiral: u64) -> ElementAnswer
 }
 
 // The elements X, Y, k, p, D and TT of one curve by document 01's working rule (after source document 002, with one term more of the
-// spiral and rounded to the nearest, as document 02 has it), in µm: from the deflection in seconds of arc, and the radius and the spiral length in mm. Any values are
-// taken: the first of refusals 9, 10, 11 and 14 that applies is answered, with place 0.
+// spiral and rounded to the nearest, as document 02 has it), in µm: from the deflection in seconds of arc, and the radius and the
+// spiral length in mm. Any values are taken: the first of refusals 9, 10, 11 and 14 that applies is answered, with place 0.
 pub fn curve_elements(deflection: u32, radius: u32, spiral: u32) -> ElementAnswer
     ensures { λ a. ⌜ replyOf a ≡ elementReply deflection radius spiral ⌝ }
 {
