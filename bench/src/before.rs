@@ -188,7 +188,15 @@ fn from_points(survey: &Survey, line: &mut [u32]) -> Result<usize, Refusal> {
 #[inline(never)]
 fn write(line: &[u32], bytes: &mut [u8]) -> Result<usize, Refusal> {
     // SAFETY: pointers and lengths are those of slices; the bytes are borrowed alone.
-    counted(unsafe { before_write(1, line.as_ptr(), line.len(), bytes.as_mut_ptr(), bytes.len()) })
+    counted(unsafe {
+        before_write(
+            1,
+            line.as_ptr(),
+            line.len(),
+            bytes.as_mut_ptr(),
+            bytes.len(),
+        )
+    })
 }
 
 #[inline(never)]

@@ -90,7 +90,7 @@ pub fn compare_rewrite(
     compare_rewrite_of_either(sheet, library, reference)
 }
 
-/// The same of a sheet of either edition, which the library before may not know.
+/// The same of a sheet of either edition, without the library before.
 fn compare_rewrite_of_either(
     sheet: &[u8],
     library: &mut Library,

@@ -1,7 +1,6 @@
 //! Lines by the coordinates of their points, the same in every run. All are
 //! accepted.
 
-use reference::edition::FIRST;
 use reference::line::{LEFT, MOST_CURVES, RIGHT};
 use reference::points::Heading;
 use reference::samples::dice::Dice;
@@ -33,12 +32,7 @@ impl Surveys {
 }
 
 fn accepted_roads(dice: &mut Dice, curves: usize, count: usize) -> Vec<Survey> {
-    // From where edition 1 may start too, as the library before asks for.
-    let roads = std::iter::repeat_with(|| {
-        let mut survey = surveyed_road(dice, curves);
-        survey.heading.start = survey.heading.start.min(FIRST.greatest_start);
-        survey
-    });
+    let roads = std::iter::repeat_with(|| surveyed_road(dice, curves));
     let accepted = roads.filter(|survey| survey.line().is_ok());
     accepted.take(count).collect()
 }

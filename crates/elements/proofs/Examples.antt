@@ -37,8 +37,8 @@ pub record Examples : Type 0 where
   -- ---- quotients just below a half: X, the cosine's part and the arc; Y, the sine's part and TT
   pub below-half-X : elementReply 204466 4622096 296860 ≡ elements 296829387 3177468 148424899 794399 4284927352 2647809653
   pub below-half-Y : elementReply 200915 4680251 486484 ≡ elements 486352613 8426222 243220103 2106755 4072377235 2722909570
-  -- ---- curves where another rounding of a quotient, or of two, tells: down or up for the nearest, up or the nearest for down; and so do powers made
-  -- of others, as t4 of t3 × t, t5 of t3 × t2, t6 of t5 × t or t3 × t3
+  -- ---- curves where another rounding of a quotient tells, down or up for the nearest, up or the nearest for down, or a power made of others: t4 of
+  -- t3 × t, t5 of t3 × t2, t6 of t5 × t or t3 × t3
   pub each-quotient-1 : elementReply 390074 864886 495081 ≡ elements 491040790 46957010 246866110 11773679 1140532693 1461354362
   pub each-quotient-2 : elementReply 294910 574588 454156 ≡ elements 447113906 59163579 225900915 14873780 367369253 737585157
   pub each-quotient-3 : elementReply 361976 822825 498957 ≡ elements 494389632 50097353 248715975 12565569 945026138 1254036070
