@@ -79,21 +79,25 @@ unitX t = pos scale -ℤ pos (t2 t / 10) +ℤ pos (t4 t / 216) -ℤ pos (t6 t / 
 unfoldable pub unitY : ℕ → ℤ
 unitY t = pos (t / 3) -ℤ pos (t3 t / 42) +ℤ pos (t5 t / 1320)
 
--- "X = L × x / 10⁶": the end of the spiral along the tangent
+-- "X = L × x / 10⁶": a length in mm times a ratio, in µm
+abbrev pub scaledLength : ℕ → ℤ → ℤ
+scaledLength L ratio = rounded (pos L *ℤ ratio) 1000000
+
+-- The end of the spiral along the tangent,
 unfoldable pub spiralX : ℕ → ℕ → ℤ
-spiralX R L = rounded (pos L *ℤ unitX (spiralAngle R L)) 1000000
+spiralX R L = scaledLength L (unitX (spiralAngle R L))
 
 -- "Y = L × y / 10⁶": and square to the tangent
 unfoldable pub spiralY : ℕ → ℕ → ℤ
-spiralY R L = rounded (pos L *ℤ unitY (spiralAngle R L)) 1000000
+spiralY R L = scaledLength L (unitY (spiralAngle R L))
 
 -- "k = X − R × sine(t) / 10⁶.": the abscissa of the arc's centre
 unfoldable pub centreOf : ℕ → ℕ → ℤ
-centreOf R L = spiralX R L -ℤ rounded (pos R *ℤ sineOf (spiralAngle R L)) 1000000
+centreOf R L = spiralX R L -ℤ scaledLength R (sineOf (spiralAngle R L))
 
 -- "p = Y − R × (10⁹ − cosine(t)) / 10⁶.": the shift of the arc
 unfoldable pub shiftOf : ℕ → ℕ → ℤ
-shiftOf R L = spiralY R L -ℤ rounded (pos R *ℤ (pos scale -ℤ cosineOf (spiralAngle R L))) 1000000
+shiftOf R L = spiralY R L -ℤ scaledLength R (pos scale -ℤ cosineOf (spiralAngle R L))
 
 -- "D = R × full angle / 10⁶ − 1,000 × L.": the length of the arc
 unfoldable pub arcOf : ℕ → ℕ → ℕ → ℤ

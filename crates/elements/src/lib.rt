@@ -11,6 +11,7 @@ const SCALE: u64 = 1000000000;
 
 pub use point::spiral_point;
 pub use rule::curve_elements;
+pub use rule::scaled_length;
 pub use turn::turn_ratios;
 
 // The elements of a curve, in µm.

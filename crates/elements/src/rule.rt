@@ -4,7 +4,7 @@ ghost use Prim.Native.Nat.{_*_, _/_, _%_, _<_, _≤_};
 ghost use lib.IntN.{pos};
 ghost use Rattle.refusals.specs.Replying.{answered, reply};
 ghost use Rattle.line.specs.Ranges.{CurveInRange};
-ghost use Rattle.elements.specs.WorkingRule.{scale, rounded, fullAngle, halfAngle, spiralAngle, unitX, unitY, arcOf, tanOf};
+ghost use Rattle.elements.specs.WorkingRule.{scale, rounded, scaledLength, fullAngle, halfAngle, spiralAngle, unitX, unitY, arcOf, tanOf};
 ghost use Rattle.elements.specs.Answer.{replyOf, valuesBy, arcCheck, elementReply};
 ghost use Rattle.elements.specs.SpiralElements.{OffsetOf, SpiralsOf};
 ghost use Rattle.elements.specs.declared.ElementAnswer.the-variants.{Found};
@@ -32,7 +32,7 @@ struct Spirals {
 
 // The rounding of the last division of an element or an offset: to the nearest, halves up. The divisor is even.
 pub(crate) fn round(product: u64, divisor: u64) -> u64
-    requires { ⌜ (product ≤ 12000000000000000000) × (0 < divisor) × (divisor ≤ scale) × (divisor % 2 ≡ 0) ⌝ }
+    requires { ⌜ (product ≤ 18446744065119617025) × (0 < divisor) × (divisor ≤ scale) × (divisor % 2 ≡ 0) ⌝ }
     ensures { λ r. ⌜ pos r ≡ rounded (pos product) divisor ⌝ }
 {
     (product + divisor / 2) / divisor
@@ -40,10 +40,17 @@ pub(crate) fn round(product: u64, divisor: u64) -> u64
 
 // A length in mm times a ratio, in µm.
 fn micrometres(mm: u64, ratio: u64) -> u64
-    requires { ⌜ (mm ≤ 5000000) × (ratio ≤ 2094395102) ⌝ }
+    requires { ⌜ (mm ≤ 4294967295) × (ratio ≤ 4294967295) ⌝ }
     ensures { λ r. ⌜ pos r ≡ rounded (pos (mm * ratio)) 1000000 ⌝ }
 {
     round(mm * ratio, 1000000)
+}
+
+// A length in mm times a ratio at scale 10⁹, in µm, rounded as the last division of X and Y. Any numbers are taken.
+pub fn scaled_length(length: u32, ratio: u32) -> u64
+    ensures { λ r. ⌜ pos r ≡ scaledLength length (pos ratio) ⌝ }
+{
+    micrometres(length as u64, ratio as u64)
 }
 
 // The product of two angles of half a radian or less, which is half of the second at the most.

@@ -4,7 +4,8 @@ use mathlib.Core.List.{List, _++_}
 use Prim.Native.Nat.{ℕ, suc, _+_, _-_, _≤_, _<_}
 use native.Mathlib.Omega.{arith}
 use lib.ListN.{length, take, drop, getD, set}
-use lib.Seq.{length-take-le, take-all, take-suc, drop-cons, append-snoc, set-at, drop-append-add, drop-drop}
+use lib.Seq.{length-take-le, take-all, drop-append-add, drop-drop}
+use Rattle.numbers.proofs.Stores.{one-stored}
 use Rattle.line.specs.declared.Line.{Line}
 use Rattle.packed_sheet.specs.declared.Edition.{Edition}
 use Rattle.packed_sheet.specs.Writing.{sheetOf}
@@ -25,13 +26,7 @@ module _ (E : Edition) (line : Line) where
   pub one-more : (lent : List ℕ) (k : ℕ) → k < length (sheetOf E line) → k < length lent
       → set (soFar E line lent k) k (getD (sheetOf E line) k 0) ≡ soFar E line lent (suc k)
   unfolding soFar
-  one-more lent k h l =
-      let s : List ℕ = sheetOf E line in
-      let front : length (take k s) ≡ k = length-take-le k s (omega arith) in
-      ap (λ (rest : List ℕ). set (take k s ++ rest) k (getD s k 0)) (drop-cons lent k 0 l)
-      ∙ set-at (take k s) (getD lent k 0) (drop (suc k) lent) (getD s k 0) k front
-      ∙ sym (append-snoc (take k s) (getD s k 0) (drop (suc k) lent))
-      ∙ ap (λ (first : List ℕ). first ++ drop (suc k) lent) (sym (take-suc s k 0 h))
+  one-more lent k h l = one-stored (sheetOf E line) lent k h l
 
   -- What comes after counts from the bytes lent as well as from those so far.
   pub onward : (lent : List ℕ) (k m : ℕ) → k ≤ m → k ≤ length (sheetOf E line) → soFar E line (soFar E line lent k) m ≡ soFar E line lent m

@@ -10,7 +10,10 @@ use Rattle.packed_sheet.specs.Layout.{numbered, editionCheck}
 use Rattle.packed_sheet.specs.Reading.{readChecks, readLine, readEdition}
 use Rattle.packed_sheet.specs.Writing.{sheetOf}
 use Rattle.elements.specs.declared.Elements.{Elements}
+use Rattle.elements.specs.declared.SpiralPoint.{SpiralPoint}
 use Rattle.elements.specs.Answer.{Values, valuesBy}
+use Rattle.elements.specs.SpiralPoint.{Offsets}
+use Rattle.spiral_table.specs.LookUp.{endBy}
 use Rattle.stationing.specs.Stations.{stationRow}
 use Rattle.coordinates.specs.FromPoints.{lineFrom}
 use Rattle.pegs.specs.Pegs.{pegChecks}
@@ -66,6 +69,17 @@ elementNumbers A R L = map natAbs (elementValues A R L)
 abbrev pub numbersOf : Elements → List ℕ
 numbersOf e = e .x ∷ e .y ∷ e .centre ∷ e .shift ∷ e .arc ∷ e .tangent ∷ []
 
--- The version of the library, 0.8.0: major, minor and patch in thousands.
+-- "gives X and Y": the end of a spiral by the table, none below zero where the call answers (`proofs/Elements.antt`)
+abbrev pub offsetNumbers : Offsets → List ℤ
+offsetNumbers o = o .x ∷ o .y ∷ []
+
+unfoldable pub endNumbers : (r L : ℕ) → List ℕ
+endNumbers r L = map natAbs (offsetNumbers (endBy r L))
+
+-- The same of a point that was answered.
+abbrev pub pointNumbersOf : SpiralPoint → List ℕ
+pointNumbersOf p = p .x ∷ p .y ∷ []
+
+-- The version of the library, 0.9.0: major, minor and patch in thousands.
 abbrev pub version : ℕ
-version = (0 * 1000 + 8) * 1000 + 0
+version = (0 * 1000 + 9) * 1000 + 0

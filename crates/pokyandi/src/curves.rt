@@ -1,11 +1,14 @@
-// The call on one curve.
+// The calls on one curve and on one spiral.
 ghost use mathlib.Core.Path.{_≡_};
 ghost use Rattle.refusals.specs.Order.{unchecked};
 ghost use Rattle.refusals.specs.Filling.{fillReplyOf, fill};
 ghost use Rattle.elements.specs.Answer.{elementChecks};
-ghost use Rattle.pokyandi.specs.Calls.{elementNumbers, numbersOf};
+ghost use Rattle.spiral_table.specs.LookUp.{lookUpChecks};
+ghost use Rattle.pokyandi.specs.Calls.{elementNumbers, numbersOf, endNumbers, pointNumbersOf};
 use elements::ElementAnswer;
 use elements::Elements;
+use elements::PointAnswer;
+use elements::SpiralPoint;
 use refusals::FillAnswer;
 use refusals::Refusal;
 
@@ -40,5 +43,30 @@ pub(crate) fn curve_numbers(
     match answer {
         ElementAnswer::Found(found) => store_elements(found, &mut *numbers),
         ElementAnswer::Refused(refusal) => FillAnswer::Refused(refusal),
+    }
+}
+
+// X and Y at the front of `offsets`, or refusal 16.
+fn store_end(end: SpiralPoint, offsets: &mut [u64]) -> FillAnswer
+    ensures { λ a. ⌜ fillReplyOf a ≡ fill unchecked (pointNumbersOf end) (now (offsets .entry)) .reply ⌝ }
+    ensures { λ _. ⌜ now (offsets .exit) ≡ fill unchecked (pointNumbersOf end) (now (offsets .entry)) .buffer ⌝ }
+{
+    if offsets.len() < 2 {
+        return FillAnswer::Refused(Refusal::SmallBuffer);
+    }
+    offsets[0] = end.x;
+    offsets[1] = end.y;
+    FillAnswer::Count(2)
+}
+
+// The end of a spiral from the table at the front of `offsets`, or the first refusal.
+pub(crate) fn end_numbers(thousandth: u32, length: u32, offsets: &mut [u64]) -> FillAnswer
+    ensures { λ a. ⌜ fillReplyOf a ≡ fill (lookUpChecks thousandth length) (endNumbers thousandth length) (now (offsets .entry)) .reply ⌝ }
+    ensures { λ _. ⌜ now (offsets .exit) ≡ fill (lookUpChecks thousandth length) (endNumbers thousandth length) (now (offsets .entry)) .buffer ⌝ }
+{
+    let answer = spiral_table::look_up(thousandth, length);
+    match answer {
+        PointAnswer::Found(end) => store_end(end, &mut *offsets),
+        PointAnswer::Refused(refusal) => FillAnswer::Refused(refusal),
     }
 }

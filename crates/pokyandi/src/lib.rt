@@ -13,13 +13,16 @@ ghost use Rattle.refusals.specs.Filling.{fill};
 ghost use Rattle.packed_sheet.specs.Reading.{readChecks, readEdition};
 ghost use Rattle.conversion.specs.Conversion.{converted, conversion};
 ghost use Rattle.elements.specs.Answer.{elementChecks};
+ghost use Rattle.spiral_table.specs.UnitSpiralTable.{unitSpiralTable};
+ghost use Rattle.spiral_table.specs.LookUp.{lookUpChecks};
 ghost use Rattle.coordinates.specs.FromPoints.{fromPointsChecks};
 ghost use Rattle.profile_numbers.specs.Numbers.{heightNumbers, numbersChecks as profileNumbersChecks};
 ghost use Rattle.station_report.specs.Report.{sheetChecks, sheetText};
 ghost use Rattle.pokyandi.specs.Answers.{answerNumber};
-ghost use Rattle.pokyandi.specs.Calls.{sheetStations, sheetPegChecks, sheetPeg, checkReply, sheetNumbers, toldChecks, numbersSheet, editionReply, pointNumbers, elementNumbers, version};
+ghost use Rattle.pokyandi.specs.Calls.{sheetStations, sheetPegChecks, sheetPeg, checkReply, sheetNumbers, toldChecks, numbersSheet, editionReply, pointNumbers, elementNumbers, endNumbers, version};
 use crate::answer::answer_number;
 use crate::curves::curve_numbers;
+use crate::curves::end_numbers;
 use crate::lines::point_numbers;
 use crate::lines::sheet_numbers;
 use crate::lines::write_numbers;
@@ -142,6 +145,26 @@ pub extern "C" fn pokyandi_elements(
     answer_number(curve_numbers(deflection, radius, spiral, &mut *numbers))
 }
 
+// X and Y of a spiral of a length in mm, at an angle in thousandths of a radian, in µm, from the table of the unit spiral (document 02, N8): two
+// numbers at the front of `offsets`. Refusals 25 for a thousandth above 500, 11 for a length above 500,000, then 16, all with place 0.
+#[no_mangle]
+pub extern "C" fn pokyandi_unit_spiral(thousandth: u32, length: u32, offsets: &mut [u64]) -> u64
+    ensures answer { λ r. ⌜ r ≡ answerNumber (fill (lookUpChecks thousandth length) (endNumbers thousandth length) (now (offsets .entry)) .reply) ⌝ }
+    ensures memory { λ _. ⌜ now (offsets .exit) ≡ fill (lookUpChecks thousandth length) (endNumbers thousandth length) (now (offsets .entry)) .buffer ⌝ }
+{
+    answer_number(end_numbers(thousandth, length, &mut *offsets))
+}
+
+// The table itself at the front of `ratios`: x and y of the spiral of length one, at scale 10⁹, at 0, 1, .. 500 thousandths of a radian, 1,002
+// numbers. Refusal 16.
+#[no_mangle]
+pub extern "C" fn pokyandi_unit_spiral_table(ratios: &mut [u64]) -> u64
+    ensures answer { λ r. ⌜ r ≡ answerNumber (fill unchecked unitSpiralTable (now (ratios .entry)) .reply) ⌝ }
+    ensures memory { λ _. ⌜ now (ratios .exit) ≡ fill unchecked unitSpiralTable (now (ratios .entry)) .buffer ⌝ }
+{
+    answer_number(spiral_table::table_numbers(&mut *ratios))
+}
+
 // The height of a profile at a station in mm (document 02, N5), in mm: one number at the front of `height`. The profile is V, start, start height and
 // first grade, then station, outgoing grade and curve length of each vertex, in mm and millionths. Refusals 3 (other than 4 + 3 × n numbers, or over
 // 32 vertices), 4, 6, then 22, 21 and 23, each vertex by vertex, then 17 for a station outside the profile, then 16.
@@ -167,5 +190,5 @@ pub extern "C" fn pokyandi_text(sheet: &[u8], text: &mut [u8]) -> u64
 pub extern "C" fn pokyandi_version() -> u64
     ensures answer { λ r. ⌜ r ≡ version ⌝ }
 {
-    8000
+    9000
 }

@@ -4,7 +4,7 @@ use mathlib.Core.Bool.{false}
 use mathlib.Core.List.{List, [], _∷_, map}
 use Prim.Native.Nat.{ℕ}
 use Rattle.refusals.specs.declared.Refusal.{Refusal}
-use Rattle.refusals.specs.declared.Refusal.the-variants.{Truncated, Edition, CurveCount, Speed, Crossfall, Start, Trailing, Distance, Deflection, Radius, Spiral, LeastRadius, LeastSpiral, ShortArc, ShortStraight, SmallBuffer, Station, Coordinate, NoTurn, WideTurn, VerticalCurve, Grade, Sight, FarStart}
+use Rattle.refusals.specs.declared.Refusal.the-variants.{Truncated, Edition, CurveCount, Speed, Crossfall, Start, Trailing, Distance, Deflection, Radius, Spiral, LeastRadius, LeastSpiral, ShortArc, ShortStraight, SmallBuffer, Station, Coordinate, NoTurn, WideTurn, VerticalCurve, Grade, Sight, FarStart, Thousandth}
 use Rattle.refusals.specs.declared.Verdict.the-variants.{Refused as refusedBy}
 use Rattle.refusals.specs.declared.FillAnswer.the-variants.{Count, Refused}
 use Rattle.refusals.specs.Table.{numberOf, placeOf}
@@ -17,11 +17,11 @@ abbrev table : List Refusal
 table =
     Truncated ∷ Edition ∷ CurveCount ∷ Speed ∷ Crossfall ∷ Start ∷ Trailing
     ∷ Distance 28 ∷ Deflection 29 ∷ Radius 30 ∷ Spiral 31 ∷ LeastRadius 32 ∷ LeastSpiral 33 ∷ ShortArc 34 ∷ ShortStraight 35
-    ∷ SmallBuffer ∷ Station ∷ Coordinate ∷ NoTurn 39 ∷ WideTurn 40 ∷ VerticalCurve 41 ∷ Grade 42 ∷ Sight 43 ∷ FarStart ∷ []
+    ∷ SmallBuffer ∷ Station ∷ Coordinate ∷ NoTurn 39 ∷ WideTurn 40 ∷ VerticalCurve 41 ∷ Grade 42 ∷ Sight 43 ∷ FarStart ∷ Thousandth ∷ []
 
 pub record Examples : Type 0 where
-  pub numbers : map numberOf table ≡ 1 ∷ 2 ∷ 3 ∷ 4 ∷ 5 ∷ 6 ∷ 7 ∷ 8 ∷ 9 ∷ 10 ∷ 11 ∷ 12 ∷ 13 ∷ 14 ∷ 15 ∷ 16 ∷ 17 ∷ 18 ∷ 19 ∷ 20 ∷ 21 ∷ 22 ∷ 23 ∷ 24 ∷ []
-  pub places : map placeOf table ≡ 0 ∷ 0 ∷ 0 ∷ 0 ∷ 0 ∷ 0 ∷ 0 ∷ 28 ∷ 29 ∷ 30 ∷ 31 ∷ 32 ∷ 33 ∷ 34 ∷ 35 ∷ 0 ∷ 0 ∷ 0 ∷ 39 ∷ 40 ∷ 41 ∷ 42 ∷ 43 ∷ 0 ∷ []
+  pub numbers : map numberOf table ≡ 1 ∷ 2 ∷ 3 ∷ 4 ∷ 5 ∷ 6 ∷ 7 ∷ 8 ∷ 9 ∷ 10 ∷ 11 ∷ 12 ∷ 13 ∷ 14 ∷ 15 ∷ 16 ∷ 17 ∷ 18 ∷ 19 ∷ 20 ∷ 21 ∷ 22 ∷ 23 ∷ 24 ∷ 25 ∷ []
+  pub places : map placeOf table ≡ 0 ∷ 0 ∷ 0 ∷ 0 ∷ 0 ∷ 0 ∷ 0 ∷ 28 ∷ 29 ∷ 30 ∷ 31 ∷ 32 ∷ 33 ∷ 34 ∷ 35 ∷ 0 ∷ 0 ∷ 0 ∷ 39 ∷ 40 ∷ 41 ∷ 42 ∷ 43 ∷ 0 ∷ 0 ∷ []
   pub verdict-says : outcomeOf (refusedBy (Distance 64)) ≡ refused 8 64
   pub count-says : fillReplyOf (Count 257) ≡ filled 257
   pub refusal-says : fillReplyOf (Refused (Distance 64)) ≡ unfilled 8 64

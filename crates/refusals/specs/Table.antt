@@ -1,7 +1,7 @@
 -- Document 01's "Refusal table", which document 02's numbers join: the number and the place of each refusal.
 use Prim.Native.Nat.{ℕ}
 use Rattle.refusals.specs.declared.Refusal.{Refusal}
-use Rattle.refusals.specs.declared.Refusal.the-variants.{Truncated, Edition, CurveCount, Speed, Crossfall, Start, Trailing, Distance, Deflection, Radius, Spiral, LeastRadius, LeastSpiral, ShortArc, ShortStraight, SmallBuffer, Station, Coordinate, NoTurn, WideTurn, VerticalCurve, Grade, Sight, FarStart}
+use Rattle.refusals.specs.declared.Refusal.the-variants.{Truncated, Edition, CurveCount, Speed, Crossfall, Start, Trailing, Distance, Deflection, Radius, Spiral, LeastRadius, LeastSpiral, ShortArc, ShortStraight, SmallBuffer, Station, Coordinate, NoTurn, WideTurn, VerticalCurve, Grade, Sight, FarStart, Thousandth}
 
 -- "Refusal table", the column No.
 abbrev pub numberOf : Refusal → ℕ
@@ -29,6 +29,7 @@ numberOf (VerticalCurve vertex) = 21
 numberOf (Grade vertex) = 22
 numberOf (Sight vertex) = 23
 numberOf FarStart = 24
+numberOf Thousandth = 25
 
 -- "the index of the distance (0 to n) for 8 and 15, the curve (1 to n) for 9 to 14, else 0"; "the place for 19 and 20 is the curve";
 -- 21 to 23, "the place being the vertex (0 for the first grade)"
@@ -57,3 +58,4 @@ placeOf (VerticalCurve vertex) = vertex
 placeOf (Grade vertex) = vertex
 placeOf (Sight vertex) = vertex
 placeOf FarStart = 0
+placeOf Thousandth = 0

@@ -53,6 +53,8 @@ pub enum Refusal {
     Sight(u16),
     // 24: the start is past the greatest of the edition asked for.
     FarStart,
+    // 25: the thousandth is past the last row of the unit spiral's table.
+    Thousandth,
 }
 
 // What a call that fills a caller's buffer answers: how many entries it wrote at the buffer's front, or why it wrote none.
@@ -97,6 +99,7 @@ impl Refusal {
             Refusal::Grade(_) => 22,
             Refusal::Sight(_) => 23,
             Refusal::FarStart => 24,
+            Refusal::Thousandth => 25,
         }
     }
 
@@ -129,6 +132,7 @@ impl Refusal {
             Refusal::Grade(vertex) => vertex,
             Refusal::Sight(vertex) => vertex,
             Refusal::FarStart => 0,
+            Refusal::Thousandth => 0,
         }
     }
 }

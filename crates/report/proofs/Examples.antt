@@ -5,7 +5,7 @@ use lib.ListN.{replicate}
 use Rattle.refusals.specs.Order.{unchecked}
 use Rattle.refusals.specs.Filling.{filled, unfilled, withRoom, fill}
 use Rattle.report.specs.Numbers.{ascii, digitsWithin, decimal, metres}
-use Rattle.report.specs.Text.{words, heading, turnName, pointName, pointCurve, pointLine, pointLines, stationList, refusalLine}
+use Rattle.report.specs.Text.{words, heading, turnName, pointName, pointCurve, pointLine, linesOf, stationList, refusalLine}
 
 pub record Examples : Type 0 where
   pub case-1 : stationList (319010720 ∷ 359010720 ∷ 620649187 ∷ 660649187 ∷ 879659907 ∷ [])
@@ -28,7 +28,7 @@ pub record Examples : Type 0 where
   pub remainder : fill unchecked (refusalLine 1 0) (replicate 14 7) .buffer ≡ ascii "REFUSED 1 0\n" ++ (7 ∷ 7 ∷ [])
 
 pub examples : Examples
-unfolding ascii digitsWithin decimal metres words heading turnName pointName pointCurve pointLine pointLines stationList refusalLine withRoom fill
+unfolding ascii digitsWithin decimal metres words heading turnName pointName pointCurve pointLine linesOf stationList refusalLine withRoom fill
 examples =
     record {
       case-1 = refl;

@@ -8,7 +8,7 @@ use lib.Dec.{eqb}
 use lib.ListN.{length, getD}
 use borrow.Author.Tests.{eqb-true, eqb-false}
 use Rattle.report.specs.Numbers.{ascii, decimal}
-use Rattle.report.specs.Text.{pointName, pointCurve, pointLine, pointLines, stationList, refusalLine}
+use Rattle.report.specs.Text.{pointName, pointCurve, pointLine, linesOf, stationList, refusalLine}
 use Rattle.report.proofs.Digits.{decimal-short}
 use Rattle.report.proofs.Names.{name-length, end-name, end-curve, point-name, point-curve}
 use Rattle.report.proofs.Lengths.{metres-length, line-length, lines-more, list-length, refusal-length}
@@ -47,10 +47,10 @@ module _ (row : List ℕ) (few : length row ≤ 257) (low : (k : ℕ) → getD r
         decimal-short (getD row i 0 / 1000000) 6 (omega (arith, low i)),
       )
 
-  lines-short : (i : ℕ) → i ≤ length row → length (pointLines row i) ≤ 21 * i
-  unfolding pointLines
+  lines-short : (i : ℕ) → i ≤ length row → length (linesOf (pointLine row) i) ≤ 21 * i
+  unfolding linesOf
   lines-short zero h = omega arith
-  lines-short (suc i) h = omega (arith, lines-more row i, lines-short i (omega arith), line-short i (omega arith))
+  lines-short (suc i) h = omega (arith, lines-more (pointLine row) i, lines-short i (omega arith), line-short i (omega arith))
 
   pub list-short : length (stationList row) ≤ 5417
   list-short = omega (arith, list-length row, lines-short (length row) (omega arith))

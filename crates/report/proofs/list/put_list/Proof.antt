@@ -7,7 +7,7 @@ use native.Mathlib.Omega.{arith}
 use borrow.Author.Needs.{needs}
 use lib.ListN.{length}
 use Rattle.report.specs.Numbers.{ascii}
-use Rattle.report.specs.Text.{words, heading, pointLines, stationList}
+use Rattle.report.specs.Text.{words, heading, pointLine, linesOf, stationList}
 use Rattle.report.specs.Pieces.{Wrote}
 use Rattle.report.proofs.Lengths.{lines-more, all-lines, list-length}
 use Rattle.report.proofs.Pieces.{wrote-none, wrote-both, wrote-as}
@@ -16,7 +16,7 @@ use Rattle.report.proofs.list.put_list.Tie as tie
 
 -- The lines so far stand behind the heading.
 abbrev Inv-loop : tie.InvT-loop
-Inv-loop row text₀ at₀ i₀ text at i = (i ≤ length row) × (length text ≡ length text₀) × Wrote text₀ text at₀ at (pointLines row i)
+Inv-loop row text₀ at₀ i₀ text at i = (i ≤ length row) × (length text ≡ length text₀) × Wrote text₀ text at₀ at (linesOf (pointLine row) i)
 
 abbrev μ-loop : tie.MeasureT-loop
 μ-loop row text₀ at₀ i₀ text at i = length row - i
@@ -28,7 +28,7 @@ put-requires : tie.Need-put-requires Inv-loop μ-loop
 put-requires c κs = omega (arith, c .before .before .before .before .pre, list-length (c .before .before .before .before .args .row .now))
 
 loop-holds : tie.Need-loop-holds Inv-loop μ-loop
-unfolding pointLines
+unfolding linesOf
 loop-holds c = (omega arith, refl, wrote-none _ _)
 
 put-line-requires : tie.Need-put-line-requires Inv-loop μ-loop
@@ -42,8 +42,8 @@ put-line-requires c κs =
         arith,
         start .pre,
         list-length row,
-        all-lines row (suc (loop .i)) (omega (arith, c .before .loop-test .taken)),
-        lines-more row (loop .i),
+        all-lines (pointLine row) {i = suc (loop .i)} (omega (arith, c .before .loop-test .taken)),
+        lines-more (pointLine row) (loop .i),
         head .ensures .ends,
         head .kept .0,
         loop .inv .1,
@@ -58,7 +58,7 @@ loop-less : tie.Need-loop-less Inv-loop μ-loop
 loop-less c = omega (arith, c .before .before .before .before .loop-test .taken)
 
 loop-again : tie.Need-loop-again Inv-loop μ-loop
-unfolding pointLines
+unfolding linesOf
 loop-again c =
     let start = c .before .before .before .before .before .before .before .before .before .before .before .before .before in
     let head = c .before .before .before .before .before .before .before .before .put in
@@ -68,7 +68,7 @@ loop-again c =
     let inside : head .result ≤ length (head .last .0) = omega (arith, start .pre, list-length row, head .ensures .ends, head .kept .0) in (
       omega (arith, c .before .before .before .before .loop-test .taken),
       more .kept .1 .1 .0 ∙ loop .inv .1,
-      wrote-as (wrote-both inside (loop .inv .2) (more .ensures)) (ap (pointLines row) (sym (add-one (loop .i)))),
+      wrote-as (wrote-both inside (loop .inv .2) (more .ensures)) (ap (linesOf (pointLine row)) (sym (add-one (loop .i)))),
     )
 
 same-length : tie.Need-same-length Inv-loop μ-loop
@@ -84,7 +84,7 @@ returns c =
     let row = start .args .row .now in
     let all : loop .i ≡ length row = omega (arith, loop .inv .0, c .loop-test .left) in
     let inside : 0 ≤ length (start .args .text .now) = omega arith in
-    wrote-as (wrote-both inside (c .before .before .before .before .put .ensures) (loop .inv .2)) (ap (λ (n : ℕ). heading ++ pointLines row n) all)
+    wrote-as (wrote-both inside (c .before .before .before .before .put .ensures) (loop .inv .2)) (ap (λ (n : ℕ). heading ++ linesOf (pointLine row) n) all)
 
 pub put-list-spec : {M : Type 1} → statement M
 put-list-spec =

@@ -1,0 +1,3 @@
+-- The laws of the unit spiral table.
+pub mod EachEntry
+pub mod AsElements

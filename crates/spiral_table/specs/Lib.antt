@@ -1,0 +1,3 @@
+-- What the contracts of `spiral_table` cite.
+pub mod UnitSpiralTable
+pub mod LookUp
