@@ -47,8 +47,8 @@ lines-grow : (line : ℕ → List ℕ) (i k : ℕ) → length (linesOf line i) �
 lines-grow line i zero = rw add-zero (omega arith)
 lines-grow line i (suc k) = rw (add-suc i k, lines-more line (i + k)) (omega (arith, lines-grow line i k))
 
-pub all-lines : (line : ℕ → List ℕ) {i count : ℕ} → i ≤ count → length (linesOf line i) ≤ length (linesOf line count)
-all-lines line {i} {count} h =
+pub all-lines : (line : ℕ → List ℕ) (i count : ℕ) → i ≤ count → length (linesOf line i) ≤ length (linesOf line count)
+all-lines line i count h =
     let e : i + (count - i) ≡ count = omega arith in
     subst (λ (n : ℕ). length (linesOf line i) ≤ length (linesOf line n)) e (lines-grow line i (count - i))
 

@@ -40,7 +40,7 @@ returns-2 c =
     (omega (
       arith,
       list-length row,
-      all-lines (pointLine row) {i = suc i} (omega (arith, c .before .before .loop-test .taken)),
+      all-lines (pointLine row) (suc i) (length row) (omega (arith, c .before .before .loop-test .taken)),
       lines-more (pointLine row) i,
       c .before .before .before .loop .inv .1,
       c .before .line-length .ensures,

@@ -42,7 +42,7 @@ put-line-requires c κs =
         arith,
         start .pre,
         list-length row,
-        all-lines (pointLine row) {i = suc (loop .i)} (omega (arith, c .before .loop-test .taken)),
+        all-lines (pointLine row) (suc (loop .i)) (length row) (omega (arith, c .before .loop-test .taken)),
         lines-more (pointLine row) (loop .i),
         head .ensures .ends,
         head .kept .0,
