@@ -1,9 +1,10 @@
 -- A call that fills a caller's buffer, for each way out: refused by its checks, by 16, or filled. Assumes nothing.
 use mathlib.Core.Path.{_≡_, refl, sym, _∙_, ap, subst}
-use mathlib.Core.List.{List, _++_}
+use mathlib.Core.List.{List, _++_, append-nil}
 use Prim.Native.Nat.{ℕ, _≤_, _<_}
+use native.Mathlib.Omega.{arith}
 use lib.Dec.{leb}
-use lib.ListN.{length, drop}
+use lib.ListN.{length, drop, drop-of-length-le}
 use borrow.Author.Tests.{le-leb, lt-leb}
 use Rattle.refusals.specs.Outcomes.{passed, refused, need, _▹_}
 use Rattle.refusals.specs.Order.{Checks, unchecked, outcome}
@@ -52,3 +53,11 @@ known-fill checks content known lent e same room =
     let whole = whole-fill unchecked known lent refl refl room refl in
     let given = refill checks unchecked content known lent e same (refl, refl) in
     (given .0 ∙ sym (whole .0), given .1 ∙ sym (whole .1))
+
+-- Into a buffer of just its length: the content itself.
+pub exact-fill : {A : Type 0} (content lent : List A) → length content ≡ length lent → fill unchecked content lent .buffer ≡ content
+exact-fill {A} content lent e =
+    let within : length lent ≤ length content = omega (arith, e) in
+    known-fill unchecked content content lent refl refl (omega (arith, e)) .1
+    ∙ ap (λ (rest : List A). content ++ rest) (drop-of-length-le lent within)
+    ∙ append-nil content
