@@ -23,7 +23,7 @@ pub const SCALE: i128 = 1_000_000_000;
 /// π at the scale 10⁹ (document 01, Working rule, full angle).
 const PI: i128 = 3_141_592_654;
 /// From mm at the scale 10⁹ to µm (document 01, Working rule, X and Y).
-const TO_MICROMETRES: i128 = 1_000_000;
+pub const TO_MICROMETRES: i128 = 1_000_000;
 
 /// The elements of one curve, µm.
 #[derive(Clone, Copy, Debug, PartialEq, Eq)]

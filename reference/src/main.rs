@@ -1,6 +1,6 @@
-//! The reference's command line: makes samples and works them, searches for large
-//! differences between the working rule and the fractions, and tells the drift of
-//! roads and how far the rule lies from the clothoid.
+//! The reference's command line: makes samples and works them, makes the unit spiral
+//! table, searches for large differences between the working rule and the fractions,
+//! and tells the drift of roads and how far the rule lies from the clothoid.
 
 use reference::accuracy_table::accuracy_table;
 use reference::clothoid::{clothoid_table, COUNT, SEED};
@@ -11,6 +11,7 @@ use reference::report::report;
 use reference::samples::station_cases::named_sheets;
 use reference::samples::station_sheets::sample_station_sheets;
 use reference::search::search;
+use reference::unit_spiral::{table_source, table_text};
 use std::ffi::OsString;
 use std::fmt::Display;
 use std::fs;
@@ -22,6 +23,8 @@ const USAGE: &str = "\
 usage: reference station-sheets SEED COUNT
        reference reports
        reference sample-sheets FOLDER
+       reference unit-spiral
+       reference unit-spiral-source
        reference accuracy SEED CURVES LINES
        reference drift SEED ROADS CURVES
        reference clothoid [SEED COUNT]
@@ -36,6 +39,12 @@ reports   reads such lines on standard input and prints for each what the
 sample-sheets
           writes into FOLDER sheets with a name, each as NAME.sheet, with what
           the station program prints for it as NAME.txt.
+unit-spiral
+          prints the unit spiral table as the program unit_spiral does: 501 lines,
+          each with the row, which is the spiral angle in thousandths of a radian,
+          and x and y of the spiral of length one at scale 10⁹.
+unit-spiral-source
+          prints the Rattle source of this table, laid out as `rt fmt` does.
 accuracy  works CURVES curves and LINES lines by the working rule and in
           fractions, climbs from some of them to larger differences, and prints
           a table of the largest, rule minus exact, each with the curve where it
@@ -64,6 +73,8 @@ enum Request {
     SampleSheets {
         folder: String,
     },
+    UnitSpiral,
+    UnitSpiralSource,
     Accuracy {
         seed: u64,
         curves: usize,
@@ -110,6 +121,8 @@ fn read_arguments(arguments: impl Iterator<Item = OsString>) -> Option<Request> 
         ["sample-sheets", folder] => Some(Request::SampleSheets {
             folder: folder.to_string(),
         }),
+        ["unit-spiral"] => Some(Request::UnitSpiral),
+        ["unit-spiral-source"] => Some(Request::UnitSpiralSource),
         ["accuracy", seed, curves, lines] => Some(Request::Accuracy {
             seed: seed.parse().ok()?,
             curves: curves.parse().ok()?,
@@ -145,6 +158,8 @@ fn answer(request: Request) -> io::Result<()> {
         }
         Request::Reports => write_out(lines(&standard_input()?).map(report_text)),
         Request::SampleSheets { folder } => write_samples(Path::new(&folder)),
+        Request::UnitSpiral => write_out([table_text()].into_iter()),
+        Request::UnitSpiralSource => write_out([table_source()].into_iter()),
         Request::Accuracy {
             seed,
             curves,
@@ -229,6 +244,18 @@ mod tests {
             "drift 1 0 60",
             "drift 1 5 0",
             "drift 1 5 65",
+        ] {
+            assert!(!is_taken(line), "{line}");
+        }
+    }
+
+    #[test]
+    fn arguments_of_the_unit_spiral() {
+        assert!(is_taken("unit-spiral") && is_taken("unit-spiral-source"));
+        for line in [
+            "unit-spiral 1",
+            "unit-spiral-source table.rt",
+            "unit_spiral",
         ] {
             assert!(!is_taken(line), "{line}");
         }

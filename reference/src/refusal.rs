@@ -1,4 +1,4 @@
-//! A refusal (document 01, Refusal table; document 02 adds 17 to 24).
+//! A refusal (document 01, Refusal table; document 02 adds 17 to 25).
 
 use std::fmt;
 

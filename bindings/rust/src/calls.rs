@@ -29,6 +29,10 @@ pub const ELEMENT_NUMBERS: usize = 6;
 pub const PROFILE_NUMBERS: usize = 100;
 /// Numbers of a height.
 pub const HEIGHT_NUMBERS: usize = 1;
+/// Numbers of what is looked up in the unit spiral table.
+pub const OFFSET_NUMBERS: usize = 2;
+/// Numbers of the unit spiral table, two of each of its 501 rows.
+pub const TABLE_NUMBERS: usize = 1_002;
 
 // A slice passes as its pointer and its length.
 extern "C" {
@@ -101,6 +105,13 @@ extern "C" {
         height: *mut i64,
         height_numbers: usize,
     ) -> u64;
+    fn pokyandi_unit_spiral(
+        thousandth: u32,
+        length: u32,
+        offsets: *mut u64,
+        offsets_numbers: usize,
+    ) -> u64;
+    fn pokyandi_unit_spiral_table(ratios: *mut u64, ratios_numbers: usize) -> u64;
 }
 
 /// The version of the library that is linked.
@@ -277,6 +288,24 @@ pub fn height(profile: &[i64], station: u64, height: &mut [i64]) -> Result<usize
             height.len(),
         )
     })
+}
+
+/// X and Y of a spiral, in µm, from the unit spiral table: two numbers. The row is
+/// the spiral angle in thousandths of a radian, 0 to 500, the length is in mm. They are
+/// those of the curve whose spiral has this length and angle. Refusals: 25 for a
+/// thousandth over 500, 11 for a length over 500,000, then 16, all with place 0.
+pub fn unit_spiral(thousandth: u32, length: u32, offsets: &mut [u64]) -> Result<usize, Refusal> {
+    // SAFETY: pointer and length are those of a slice, borrowed alone.
+    counted(unsafe {
+        pokyandi_unit_spiral(thousandth, length, offsets.as_mut_ptr(), offsets.len())
+    })
+}
+
+/// The unit spiral table: x and y of the spiral of length one at 0, 1, .. 500
+/// thousandths of a radian, row by row, at scale 10⁹; 1,002 numbers. Refusal: 16.
+pub fn unit_spiral_table(ratios: &mut [u64]) -> Result<usize, Refusal> {
+    // SAFETY: pointer and length are those of a slice, borrowed alone.
+    counted(unsafe { pokyandi_unit_spiral_table(ratios.as_mut_ptr(), ratios.len()) })
 }
 
 #[cfg(test)]

@@ -1,5 +1,5 @@
-//! Stations of road alignments from packed sheets, and heights of profiles: safe
-//! functions over the proved static library `libpokyandi.a`, whose header is `include/pokyandi.h`.
+//! Stations of road alignments from packed sheets, heights of profiles, and the unit
+//! spiral table: safe functions over the proved static library `libpokyandi.a`, whose header is `include/pokyandi.h`.
 //!
 //! A call writes its count of entries at the front of the buffer that it is
 //! lent, leaves those behind them as they are, and answers the count. A refusal
@@ -40,6 +40,11 @@
 //! pokyandi::height(&profile, 200_000, &mut height).unwrap();
 //! assert_eq!(height, [105_500]);
 //!
+//! // X and Y of a spiral of 48 m at half a radian, µm, from the unit spiral table.
+//! let mut offsets = [0; pokyandi::OFFSET_NUMBERS];
+//! pokyandi::unit_spiral(500, 48_000, &mut offsets).unwrap();
+//! assert_eq!(offsets, [46_813_809, 7_858_279]);
+//!
 //! line[pokyandi::line::distance(0)] = 0;
 //! let refusal = pokyandi::write(1, &line[..count], &mut [0; 10]).unwrap_err();
 //! let words = "refused 8 at place 0: distance outside 1 to 20,000,000 mm";
@@ -51,9 +56,9 @@ mod names;
 mod refusal;
 
 pub use calls::{check, convert, edition, elements, from_points, height, peg, read};
-pub use calls::{rewrite, stations, text, version, write};
+pub use calls::{rewrite, stations, text, unit_spiral, unit_spiral_table, version, write};
 pub use calls::{CURVE_NUMBERS, ELEMENT_NUMBERS, HEIGHT_NUMBERS, LINE_NUMBERS, PEG_NUMBERS};
-pub use calls::{POINT_NUMBERS, PROFILE_NUMBERS, ROW_NUMBERS};
+pub use calls::{OFFSET_NUMBERS, POINT_NUMBERS, PROFILE_NUMBERS, ROW_NUMBERS, TABLE_NUMBERS};
 pub use calls::{SHEET_BYTES, TEXT_BYTES};
 pub use calls::{STACK_BYTES, VERSION};
 pub use names::{curve, element, line, peg, profile, vertex};

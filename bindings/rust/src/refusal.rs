@@ -43,6 +43,7 @@ pub enum Reason {
     Grade,
     Sight,
     FarStart,
+    Thousandth,
     /// A number that this crate does not know.
     Unknown(u32),
 }
@@ -74,6 +75,7 @@ impl Reason {
         Reason::Grade,
         Reason::Sight,
         Reason::FarStart,
+        Reason::Thousandth,
     ];
 
     /// The reason with this number; 0 is none.
@@ -85,7 +87,7 @@ impl Reason {
         }
     }
 
-    /// The number in those documents, 1 to 24, or the unknown one.
+    /// The number in those documents, 1 to 25, or the unknown one.
     pub fn number(self) -> u32 {
         match self {
             Reason::Truncated => 1,
@@ -112,6 +114,7 @@ impl Reason {
             Reason::Grade => 22,
             Reason::Sight => 23,
             Reason::FarStart => 24,
+            Reason::Thousandth => 25,
             Reason::Unknown(number) => number,
         }
     }
@@ -158,6 +161,9 @@ impl Reason {
             Reason::Grade => "grade beyond 120,000 millionths (12 percent) either way",
             Reason::Sight => "vertical curve shorter than the stopping distance needs",
             Reason::FarStart => "start over 200,000,000 mm, the greatest of edition 1",
+            Reason::Thousandth => {
+                "spiral angle over 500 thousandths of a radian; take a row of the table, 0 to 500"
+            }
             Reason::Unknown(_) => "unknown refusal",
         }
     }
@@ -220,7 +226,7 @@ mod tests {
 
     #[test]
     fn an_unknown_refusal_keeps_its_number() {
-        for number in [25, 26, u32::MAX] {
+        for number in [26, 27, u32::MAX] {
             let refusal = counted(u64::from(number) << 32 | 5).unwrap_err();
             assert_eq!(refusal.reason, Reason::Unknown(number));
             let words = format!("refused {number} at place 5: unknown refusal");

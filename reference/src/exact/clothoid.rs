@@ -50,6 +50,11 @@ fn pi() -> Fraction {
     Fraction::from(3_141_592_653_589_793_238_462_643_383_279_502_884_i128) / 10_i128.pow(36)
 }
 
+/// X and Y over L at the spiral angle s, 1/2 at most.
+pub fn ratios(s: &Fraction) -> [Fraction; 2] {
+    [x_ratio(s, TERMS), y_ratio(s, TERMS)]
+}
+
 /// X over L, the sum of (−1)ⁿ s²ⁿ / ((4n + 1) (2n)!): 1 − z/(1 × 2) × (1/5 − z/(3 × 4)
 /// × (1/9 − ..)) with z = s².
 fn x_ratio(s: &Fraction, terms: u32) -> Fraction {

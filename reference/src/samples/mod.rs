@@ -25,6 +25,7 @@ pub mod sheets;
 pub mod station_cases;
 pub mod station_sheets;
 pub mod surveys;
+pub mod unit_spiral_edges;
 pub mod writer_edges;
 
 mod faults;

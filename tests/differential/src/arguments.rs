@@ -10,11 +10,11 @@ usage: differential run [--seed S] [--count N]
 run       calls the static library and the reference with the same N inputs
           and compares the answers and every byte or number of the memory,
           lent or not. An input is one of the calls stations, check, rewrite,
-          elements, text, read, write, peg, points, height, edition and convert
-          with one sheet, curve, line, list of points or profile and one lent
-          buffer. The first inputs have a name. Prints how often each call gave
-          each answer. With 20000 inputs or more, every refusal that a
-          call can give must occur.
+          elements, text, read, write, peg, points, height, edition, convert,
+          look-up and table with one sheet, curve, line, list of points, profile
+          or row and length, and one lent buffer. The first inputs have a name.
+          Prints how often each call gave each answer. With 20000 inputs or more,
+          every refusal that a call can give must occur.
           Without options: seed 1, 80000 inputs.
 replay    compares one input of a run again, and prints it.
 accuracy  holds the library's stations, elements and offsets on spirals of N

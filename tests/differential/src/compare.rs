@@ -7,6 +7,7 @@ use crate::input::{Input, Request};
 use crate::laws::broken_law;
 use crate::memory::{Entry, EntryDifference, Memory};
 use crate::side::{Answer, Reference, Side};
+use crate::unit_spiral_laws::{broken_look_up_law, broken_table_law};
 use reference::refusal::refuse;
 use reference::report::refusal_number;
 use std::fmt;
@@ -25,7 +26,8 @@ pub enum Difference {
     /// Writing what was read, or reading what was written, does not give the
     /// sheet or line back.
     NotBack,
-    /// A law of lines from coordinates, of heights or of conversions is broken.
+    /// A law of lines from coordinates, of heights, of conversions or of the unit spiral
+    /// table is broken.
     Law(&'static str),
 }
 
@@ -131,6 +133,18 @@ pub fn compare(library: &dyn Side, input: &Input) -> Comparison {
                 broken_conversion_law(library, sheet)
             })
         }),
+        Request::UnitSpiral(thousandth, length) => {
+            let call = |side: &dyn Side, offsets: &mut [u64]| {
+                side.unit_spiral(*thousandth, *length, offsets)
+            };
+            lawful(both(input, library, call).0, || {
+                broken_look_up_law(library, *thousandth, *length)
+            })
+        }
+        Request::UnitSpiralTable => {
+            let call = |side: &dyn Side, ratios: &mut [u64]| side.unit_spiral_table(ratios);
+            lawful(both(input, library, call).0, || broken_table_law(library))
+        }
     }
 }
 
@@ -309,6 +323,8 @@ mod tests {
         requests.push(Request::Write(1, Line::case_1().numbers()));
         requests.push(Request::FromPoints(case_1()));
         requests.push(Request::Height(crest().numbers(), 200_000));
+        requests.push(Request::UnitSpiral(250, 40_000));
+        requests.push(Request::UnitSpiralTable);
         assert_eq!(requests.len(), Call::ALL.len());
         requests
     }
@@ -433,7 +449,7 @@ mod tests {
     }
 
     /// The answer is as it should be, but a line of full room is not, nor the height
-    /// of a profile that starts 1 mm higher.
+    /// of a profile that starts 1 mm higher, nor the row of what is looked up.
     #[test]
     fn broken_laws_are_found() {
         let library = Spoilt {
@@ -466,6 +482,27 @@ mod tests {
         };
         let there = Request::Convert(sheet_of(&Line::case_1()), 2);
         let found = difference(&library, &there, Room::Needed(0));
+        assert!(matches!(found, Some(Difference::Law(_))), "{found:?}");
+        let library = Spoilt {
+            table: |ratios| {
+                let count = Reference.unit_spiral_table(ratios)?;
+                ratios[500] += 1_000;
+                Ok(count)
+            },
+            ..Spoilt::NOT
+        };
+        let of_its_row = Request::UnitSpiral(250, 40_000);
+        let found = difference(&library, &of_its_row, Room::Needed(0));
+        assert!(matches!(found, Some(Difference::Law(_))), "{found:?}");
+        let library = Spoilt {
+            look_up: |thousandth, length, offsets| {
+                let count = Reference.unit_spiral(thousandth, length, offsets)?;
+                offsets[1] += u64::from(thousandth == 499);
+                Ok(count)
+            },
+            ..Spoilt::NOT
+        };
+        let found = difference(&library, &Request::UnitSpiralTable, Room::Needed(0));
         assert!(matches!(found, Some(Difference::Law(_))), "{found:?}");
     }
 

@@ -1,5 +1,5 @@
-//! One input: a call, its sheet, curve, line, points or profile, and the room that is
-//! lent.
+//! One input: a call, its sheet, curve, line, points, profile or what it looks up, and
+//! the room that is lent.
 
 use crate::side::{stretches_of, text_of};
 use reference::curve::Curve;
@@ -25,10 +25,12 @@ pub enum Call {
     Height,
     Edition,
     Convert,
+    UnitSpiral,
+    UnitSpiralTable,
 }
 
 impl Call {
-    pub const ALL: [Call; 12] = [
+    pub const ALL: [Call; 14] = [
         Call::Stations,
         Call::Check,
         Call::Rewrite,
@@ -41,6 +43,8 @@ impl Call {
         Call::Height,
         Call::Edition,
         Call::Convert,
+        Call::UnitSpiral,
+        Call::UnitSpiralTable,
     ];
 
     pub fn name(self) -> &'static str {
@@ -57,6 +61,8 @@ impl Call {
             Call::Height => "height",
             Call::Edition => "edition",
             Call::Convert => "convert",
+            Call::UnitSpiral => "look-up",
+            Call::UnitSpiralTable => "table",
         }
     }
 
@@ -72,7 +78,8 @@ impl Call {
             Call::Write => 740,
             Call::Peg => 12,
             Call::FromPoints => 340,
-            Call::Height => 6,
+            Call::Height | Call::UnitSpiral => 6,
+            Call::UnitSpiralTable => 1_010,
         }
     }
 
@@ -90,13 +97,16 @@ impl Call {
             Call::Height => vec![3, 4, 6, 16, 17, 21, 22, 23],
             Call::Edition => (1..=11).collect(),
             Call::Convert => (1..=11).chain([16, 24]).collect(),
+            Call::UnitSpiral => vec![11, 16, 25],
+            Call::UnitSpiralTable => vec![16],
         }
     }
 }
 
 /// A call with its sheet, its curve, the numbers of its line, its points or the
 /// numbers of its profile; a peg and a height with the station too, a line that is
-/// written and a sheet that is converted with the edition.
+/// written and a sheet that is converted with the edition; a look-up with the
+/// thousandth and the length.
 #[derive(Clone, Debug, PartialEq, Eq)]
 pub enum Request {
     Stations(Vec<u8>),
@@ -111,6 +121,8 @@ pub enum Request {
     Height(Vec<i64>, u64),
     Edition(Vec<u8>),
     Convert(Vec<u8>, u32),
+    UnitSpiral(u32, u32),
+    UnitSpiralTable,
 }
 
 impl Request {
@@ -154,6 +166,8 @@ impl Request {
             Request::Height(..) => Call::Height,
             Request::Edition(_) => Call::Edition,
             Request::Convert(..) => Call::Convert,
+            Request::UnitSpiral(..) => Call::UnitSpiral,
+            Request::UnitSpiralTable => Call::UnitSpiralTable,
         }
     }
 
@@ -161,7 +175,10 @@ impl Request {
     /// most 64; 0 where it is not said.
     pub fn curves(&self) -> usize {
         match self {
-            Request::Elements(_) | Request::Height(..) => 0,
+            Request::Elements(_)
+            | Request::Height(..)
+            | Request::UnitSpiral(..)
+            | Request::UnitSpiralTable => 0,
             Request::Stations(sheet)
             | Request::Check(sheet)
             | Request::Rewrite(sheet)
@@ -191,6 +208,8 @@ impl Request {
             Request::Read(_) | Request::FromPoints(_) => number_count(n),
             Request::Peg(..) => pokyandi::PEG_NUMBERS,
             Request::Height(..) => pokyandi::HEIGHT_NUMBERS,
+            Request::UnitSpiral(..) => pokyandi::OFFSET_NUMBERS,
+            Request::UnitSpiralTable => pokyandi::TABLE_NUMBERS,
         }
     }
 }
@@ -257,6 +276,8 @@ mod tests {
         assert_eq!(curve.needed(), 6);
         assert_eq!(Request::FromPoints(case_1()).needed(), 10);
         assert_eq!(Request::Height(crest().numbers(), 0).needed(), 1);
+        assert_eq!(Request::UnitSpiral(500, 40_000).needed(), 2);
+        assert_eq!(Request::UnitSpiralTable.needed(), 1_002);
     }
 
     #[test]
@@ -282,6 +303,7 @@ mod tests {
         let needs = [0, 5, 7, 132, 134, 1_000].map(of_points);
         assert_eq!(needs, [5, 5, 10, 325, 325, 325]);
         assert_eq!(Request::Height(vec![], 0).needed(), 1);
+        assert_eq!(Request::UnitSpiral(501, u32::MAX).needed(), 2);
     }
 
     /// Sheets of three curves have 42 bytes in edition 1, 43 in edition 2.

@@ -21,6 +21,7 @@ mod side;
 #[cfg(test)]
 mod spoilt;
 mod tally;
+mod unit_spiral_laws;
 
 use arguments::{command_of, Command, USAGE};
 use side::Library;

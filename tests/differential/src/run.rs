@@ -71,8 +71,8 @@ fn report(inputs: &Inputs, index: u64, input: &Input, result: &Option<Comparison
     rows.concat()
 }
 
-/// The curve, the numbers of the line or profile, the points, or the sheet and what
-/// the reference reads in it.
+/// The curve, the numbers of the line or profile, the points, what is looked up, or the
+/// sheet and what the reference reads in it.
 fn request_rows(request: &Request) -> Vec<String> {
     match request {
         Request::Elements(curve) => vec![row("curve A R L", curve)],
@@ -97,6 +97,10 @@ fn request_rows(request: &Request) -> Vec<String> {
         Request::Height(profile, station) => {
             vec![row("profile", joined(profile)), row("station", station)]
         }
+        Request::UnitSpiral(thousandth, length) => {
+            vec![row("thousandth", thousandth), row("length", length)]
+        }
+        Request::UnitSpiralTable => Vec::new(),
     }
 }
 
@@ -163,8 +167,8 @@ mod tests {
     use crate::input::{Call, Room};
     use crate::side::Library;
     use crate::spoilt::{
-        Spoilt, CONVERT_FAULTS, EDITION_FAULTS, ELEMENT_FAULTS, HEIGHT_FAULTS, PEG_FAULTS,
-        POINT_FAULTS, WRITE_FAULTS,
+        Spoilt, CONVERT_FAULTS, EDITION_FAULTS, ELEMENT_FAULTS, HEIGHT_FAULTS, LOOK_UP_FAULTS,
+        PEG_FAULTS, POINT_FAULTS, TABLE_FAULTS, WRITE_FAULTS,
     };
     use reference::refusal::refuse;
 
@@ -337,6 +341,36 @@ mod tests {
                 ..Spoilt::NOT
             };
             check(fault, Call::Convert, library);
+        }
+    }
+
+    /// Each fault of the unit spiral table, looked up or whole, likewise.
+    #[test]
+    fn faulty_unit_spirals_are_reported() {
+        let inputs = Inputs::of(1);
+        let kinds = indexes_of(&inputs, Call::UnitSpiral);
+        for (fault, look_up) in LOOK_UP_FAULTS {
+            let library = Spoilt {
+                look_up,
+                ..Spoilt::NOT
+            };
+            for indexes in &kinds {
+                let found = first_report(&inputs, indexes, &library).expect(fault);
+                assert!(found.contains("\ncall         look-up\n"), "{found}");
+                assert!(found.contains("\nthousandth   "), "{found}");
+                assert!(found.contains("\nlength       "), "{found}");
+            }
+        }
+        let kinds = indexes_of(&inputs, Call::UnitSpiralTable);
+        for (fault, table) in TABLE_FAULTS {
+            let library = Spoilt {
+                table,
+                ..Spoilt::NOT
+            };
+            for indexes in &kinds {
+                let found = first_report(&inputs, indexes, &library).expect(fault);
+                assert!(found.contains("\ncall         table\nroom "), "{found}");
+            }
         }
     }
 

@@ -12,12 +12,13 @@ use reference::report::report;
 use reference::samples::surveys::Survey;
 use reference::sheet;
 use reference::stations::stations;
+use reference::unit_spiral::{unit_spiral, unit_spiral_table};
 
 /// The count of entries that a call wrote, or its refusal.
 pub type Answer = Result<usize, Refusal>;
 
 /// The calls of `include/pokyandi.h` that take a sheet, a curve, a line, points or a
-/// profile.
+/// profile, and those of the unit spiral table.
 pub trait Side {
     fn stations(&self, sheet: &[u8], row: &mut [u64]) -> Answer;
     fn check(&self, sheet: &[u8]) -> Answer;
@@ -38,6 +39,8 @@ pub trait Side {
         line: &mut [u32],
     ) -> Answer;
     fn height(&self, profile: &[i64], station: u64, numbers: &mut [i64]) -> Answer;
+    fn unit_spiral(&self, thousandth: u32, length: u32, offsets: &mut [u64]) -> Answer;
+    fn unit_spiral_table(&self, ratios: &mut [u64]) -> Answer;
 }
 
 /// The static library, called by way of its Rust crate.
@@ -96,6 +99,14 @@ impl Side for Library {
 
     fn height(&self, profile: &[i64], station: u64, numbers: &mut [i64]) -> Answer {
         answer_of(pokyandi::height(profile, station, numbers))
+    }
+
+    fn unit_spiral(&self, thousandth: u32, length: u32, offsets: &mut [u64]) -> Answer {
+        answer_of(pokyandi::unit_spiral(thousandth, length, offsets))
+    }
+
+    fn unit_spiral_table(&self, ratios: &mut [u64]) -> Answer {
+        answer_of(pokyandi::unit_spiral_table(ratios))
     }
 }
 
@@ -164,6 +175,14 @@ impl Side for Reference {
     fn height(&self, profile: &[i64], station: u64, numbers: &mut [i64]) -> Answer {
         height(profile, station, numbers)
     }
+
+    fn unit_spiral(&self, thousandth: u32, length: u32, offsets: &mut [u64]) -> Answer {
+        unit_spiral(thousandth, length, offsets)
+    }
+
+    fn unit_spiral_table(&self, ratios: &mut [u64]) -> Answer {
+        unit_spiral_table(ratios)
+    }
 }
 
 /// The elements of an accepted curve at the front of the lent numbers.
@@ -201,6 +220,13 @@ pub fn line_of(side: &dyn Side, survey: &Survey) -> Result<Vec<u32>, Refusal> {
     let mut line = [0; pokyandi::LINE_NUMBERS];
     let count = side.line_from_points(*heading, points, curves, &mut line)?;
     Ok(line[..count].to_vec())
+}
+
+/// X and Y that a side looks up.
+pub fn offsets_of(side: &dyn Side, thousandth: u32, length: u32) -> Result<[u64; 2], Refusal> {
+    let mut offsets = [0; pokyandi::OFFSET_NUMBERS];
+    side.unit_spiral(thousandth, length, &mut offsets)?;
+    Ok(offsets)
 }
 
 /// The height that a side gives of a profile.
@@ -346,6 +372,32 @@ mod tests {
             assert_eq!(numbers, [100_000, 7]);
             assert_eq!(side.height(&profile, 0, &mut []), refuse(16, 0));
             assert_eq!(height_of(side, &profile[..6], 0), refuse(3, 0));
+        }
+    }
+
+    /// Rows 0, 250 and 500 as worked by hand, and spirals of 48 m and 500 m.
+    #[test]
+    fn unit_spiral_of_both_sides() {
+        for side in [&Reference as &dyn Side, &Library] {
+            let offsets = |thousandth, length| offsets_of(side, thousandth, length);
+            assert_eq!(offsets(0, 48_000), Ok([48_000_000, 0]));
+            assert_eq!(offsets(250, 48_000), Ok([47_700_867, 3_982_178]));
+            assert_eq!(offsets(500, 48_000), Ok([46_813_809, 7_858_279]));
+            assert_eq!(offsets(500, 500_000), Ok([487_643_841, 81_857_075]));
+            assert_eq!(offsets(501, 500_001), refuse(25, 0));
+            assert_eq!(offsets(500, 500_001), refuse(11, 0));
+            let mut lent = [7; 3];
+            assert_eq!(side.unit_spiral(500, 1, &mut lent[..1]), refuse(16, 0));
+            assert_eq!(side.unit_spiral(500, 1, &mut lent), Ok(2));
+            assert_eq!(lent, [975, 164, 7]);
+
+            let mut ratios = [7; 1_003];
+            let small = side.unit_spiral_table(&mut ratios[..1_001]);
+            assert_eq!((small, ratios), (refuse(16, 0), [7; 1_003]));
+            assert_eq!(side.unit_spiral_table(&mut ratios), Ok(1_002));
+            assert_eq!(ratios[..4], [1_000_000_000, 0, 999_999_900, 333_333]);
+            assert_eq!(ratios[500..502], [993_768_058, 82_962_049]);
+            assert_eq!(ratios[1_000..], [975_287_682, 163_714_150, 7]);
         }
     }
 

@@ -1,13 +1,13 @@
 //! A side for tests of the comparison: the reference, its answers and what it
 //! wrote changed; and faults of elements, of pegs, of lines from coordinates, of
-//! heights and of editions.
+//! heights, of editions and of the unit spiral table.
 
 use crate::side::{fill_elements, stretches_of, Answer, Reference, Side};
 use reference::curve::Curve;
 use reference::edition::{Edition, FIRST};
 use reference::elements::{
     elements, quotient, rule_with, shorter_x_ratio, shorter_y_ratio, x_ratio, y_ratio, Ratios,
-    RATIOS, SCALE, SHORTER_RATIOS,
+    GREATEST_SPIRAL, RATIOS, SCALE, SHORTER_RATIOS,
 };
 use reference::line::{Line, LEFT};
 use reference::pegs::offsets_with;
@@ -19,6 +19,7 @@ use reference::samples::profiles::twice_factor;
 use reference::samples::sheet_fields::{edition_said, EDITION};
 use reference::sheet;
 use reference::sight::stopping_distance;
+use reference::unit_spiral::{row, GREATEST_THOUSANDTH, THOUSANDTH};
 
 /// How the answer and the lent entries of a call are changed.
 pub type Change<T> = fn(Answer, &mut [T]) -> Answer;
@@ -47,8 +48,14 @@ pub type WriteCall = fn(u32, &[u32], &mut [u8]) -> Answer;
 /// How a sheet is brought to an edition.
 pub type ConvertCall = fn(&[u8], u32, &mut [u8]) -> Answer;
 
+/// How X and Y of a row and a length are looked up.
+pub type LookUpCall = fn(u32, u32, &mut [u64]) -> Answer;
+
+/// How the unit spiral table is given.
+pub type TableCall = fn(&mut [u64]) -> Answer;
+
 pub struct Spoilt {
-    /// Of calls that are lent a row or the numbers of elements.
+    /// Of calls that are lent a row, the numbers of elements or those of the unit spiral.
     pub numbers: Change<u64>,
     /// Of calls that are lent bytes, and of `check`, which is lent nothing.
     pub bytes: Change<u8>,
@@ -70,6 +77,9 @@ pub struct Spoilt {
     pub convert: ConvertCall,
     /// The edition.
     pub edition: EditionCall,
+    /// Before the change, what is looked up in the unit spiral table, and the table.
+    pub look_up: LookUpCall,
+    pub table: TableCall,
 }
 
 impl Spoilt {
@@ -89,6 +99,8 @@ impl Spoilt {
         write: |edition, line, bytes| Reference.write(edition, line, bytes),
         convert: |sheet, edition, bytes| Reference.convert(sheet, edition, bytes),
         edition: |sheet| Reference.edition(sheet),
+        look_up: |thousandth, length, offsets| Reference.unit_spiral(thousandth, length, offsets),
+        table: |ratios| Reference.unit_spiral_table(ratios),
     };
 }
 
@@ -145,6 +157,14 @@ impl Side for Spoilt {
 
     fn height(&self, profile: &[i64], station: u64, numbers: &mut [i64]) -> Answer {
         (self.signed)((self.height)(profile, station, numbers), numbers)
+    }
+
+    fn unit_spiral(&self, thousandth: u32, length: u32, offsets: &mut [u64]) -> Answer {
+        (self.numbers)((self.look_up)(thousandth, length, offsets), offsets)
+    }
+
+    fn unit_spiral_table(&self, ratios: &mut [u64]) -> Answer {
+        (self.numbers)((self.table)(ratios), ratios)
     }
 }
 
@@ -964,6 +984,159 @@ fn room_of_the_own(sheet: &[u8], asked: u32, bytes: &mut [u8]) -> Answer {
     if bytes.len() < sheet.len() {
         bytes.copy_from_slice(&before);
         return refuse(16, 0);
+    }
+    Ok(count)
+}
+
+/// Faults of looking up the unit spiral table.
+pub const LOOK_UP_FAULTS: [(&str, LookUpCall); 15] = [
+    (
+        "x and y have source document 002's terms",
+        |r, l, offsets| other_offsets(r, l, offsets, |r, l| shorter_row(r).map(|v| nearest(l * v))),
+    ),
+    ("the angle is twice the row's", |r, l, offsets| {
+        other_offsets(r, l, offsets, |r, l| row(2 * r).map(|v| nearest(l * v)))
+    }),
+    ("the row before it", |r, l, offsets| {
+        other_offsets(r, l, offsets, |r, l| {
+            row(r.saturating_sub(1)).map(|v| nearest(l * v))
+        })
+    }),
+    ("X and Y are rounded down", |r, l, offsets| {
+        other_offsets(r, l, offsets, |r, l| row(r).map(|v| l * v / MICROMETRES))
+    }),
+    ("halves go down", |r, l, offsets| {
+        other_offsets(r, l, offsets, |r, l| {
+            row(r).map(|v| (l * v + MICROMETRES / 2 - 1) / MICROMETRES)
+        })
+    }),
+    ("halves go to the even number", |r, l, offsets| {
+        other_offsets(r, l, offsets, |r, l| row(r).map(|v| to_even(l * v)))
+    }),
+    ("the ratios are rounded to millionths", |r, l, offsets| {
+        other_offsets(r, l, offsets, |r, l| {
+            row(r).map(|v| nearest(l * (v / 1_000 * 1_000)))
+        })
+    }),
+    ("X and Y are exchanged", |r, l, offsets| {
+        other_offsets(r, l, offsets, |r, l| {
+            let [x, y] = row(r);
+            [y, x].map(|v| nearest(l * v))
+        })
+    }),
+    ("11 comes before 25", |r, l, offsets| match l {
+        0..=GREATEST_SPIRAL => Reference.unit_spiral(r, l, offsets),
+        _ => refuse(11, 0),
+    }),
+    ("25 for row 500", |r, l, offsets| match r {
+        GREATEST_THOUSANDTH => refuse(25, 0),
+        _ => Reference.unit_spiral(r, l, offsets),
+    }),
+    ("row 501 is taken for the last", |r, l, offsets| match r {
+        501 => Reference.unit_spiral(GREATEST_THOUSANDTH, l, offsets),
+        _ => Reference.unit_spiral(r, l, offsets),
+    }),
+    ("the row is cut to 16 bits", |r, l, offsets| {
+        Reference.unit_spiral(r % (1 << 16), l, offsets)
+    }),
+    ("11 for 500,000 mm", |r, l, offsets| {
+        match Reference.unit_spiral(r, l, &mut [0; 2]) {
+            Ok(_) if l == GREATEST_SPIRAL => refuse(11, 0),
+            _ => Reference.unit_spiral(r, l, offsets),
+        }
+    }),
+    ("16 comes before 25 and 11", |r, l, offsets| {
+        Reference.unit_spiral(0, 0, &mut offsets.to_vec())?;
+        Reference.unit_spiral(r, l, offsets)
+    }),
+    ("X is stored before the room is known", |r, l, offsets| {
+        let mut found = [0; 2];
+        Reference.unit_spiral(r, l, &mut found)?;
+        if let Some(first) = offsets.first_mut() {
+            *first = found[0];
+        }
+        Reference.unit_spiral(r, l, offsets)
+    }),
+];
+
+/// 10⁶.
+const MICROMETRES: u64 = 1_000_000;
+
+fn nearest(product: u64) -> u64 {
+    (product + MICROMETRES / 2) / MICROMETRES
+}
+
+/// To the nearest, halves to the even number.
+fn to_even(product: u64) -> u64 {
+    let half = product % MICROMETRES == MICROMETRES / 2;
+    let up = nearest(product);
+    up - u64::from(half && up % 2 == 1)
+}
+
+/// The row with source document 002's terms.
+fn shorter_row(thousandth: u32) -> [u64; 2] {
+    let t = i128::from(thousandth) * THOUSANDTH;
+    [shorter_x_ratio(t), shorter_y_ratio(t)].map(|ratio| ratio as u64)
+}
+
+/// Other X and Y where there are any, of row and length.
+fn other_offsets(
+    thousandth: u32,
+    length: u32,
+    offsets: &mut [u64],
+    other: fn(u32, u64) -> [u64; 2],
+) -> Answer {
+    let count = Reference.unit_spiral(thousandth, length, offsets)?;
+    offsets[..count].copy_from_slice(&other(thousandth, length.into()));
+    Ok(count)
+}
+
+/// Faults of the unit spiral table.
+pub const TABLE_FAULTS: [(&str, TableCall); 7] = [
+    ("x and y have source document 002's terms", |ratios| {
+        other_rows(ratios, shorter_row)
+    }),
+    ("the rows begin at 1", |ratios| {
+        other_rows(ratios, |thousandth| row(thousandth + 1))
+    }),
+    ("y comes before x", |ratios| {
+        other_rows(ratios, |thousandth| {
+            let [x, y] = row(thousandth);
+            [y, x]
+        })
+    }),
+    ("the last y is one more", |ratios| {
+        let count = Reference.unit_spiral_table(ratios)?;
+        ratios[count - 1] += 1;
+        Ok(count)
+    }),
+    ("the row behind the last is given", |ratios| {
+        let count = Reference.unit_spiral_table(ratios)?;
+        if let Some(behind) = ratios.get_mut(count..count + 2) {
+            behind.copy_from_slice(&row(501));
+        }
+        Ok(count)
+    }),
+    ("what fits is given", |ratios| {
+        let mut all = [0; pokyandi::TABLE_NUMBERS];
+        let count = Reference.unit_spiral_table(&mut all)?.min(ratios.len());
+        ratios[..count].copy_from_slice(&all[..count]);
+        Ok(count)
+    }),
+    ("what fits is stored before the room is known", |ratios| {
+        let mut all = [0; pokyandi::TABLE_NUMBERS];
+        let count = Reference.unit_spiral_table(&mut all)?.min(ratios.len());
+        ratios[..count].copy_from_slice(&all[..count]);
+        Reference.unit_spiral_table(ratios)
+    }),
+];
+
+/// Other rows where there is room for them.
+fn other_rows(ratios: &mut [u64], other: fn(u32) -> [u64; 2]) -> Answer {
+    let count = Reference.unit_spiral_table(ratios)?;
+    let rows = ratios[..count].chunks_exact_mut(2);
+    for (thousandth, numbers) in (0..).zip(rows) {
+        numbers.copy_from_slice(&other(thousandth));
     }
     Ok(count)
 }

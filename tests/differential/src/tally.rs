@@ -4,8 +4,8 @@ use crate::compare::Comparison;
 use crate::input::{Call, Input};
 use reference::line::MOST_CURVES;
 
-/// Accepted, and the refusals 1 to 24.
-const OUTCOMES: usize = 25;
+/// Accepted, and the refusals 1 to 25.
+const OUTCOMES: usize = 26;
 
 /// The last refusal that a text tells.
 const MOST_TOLD: usize = 15;
@@ -105,7 +105,10 @@ fn can_give(call: Call, outcome: usize) -> bool {
 
 /// Whether the call takes a line, as a sheet, in numbers or by points.
 fn has_curves(call: Call) -> bool {
-    !matches!(call, Call::Elements | Call::Height)
+    !matches!(
+        call,
+        Call::Elements | Call::Height | Call::UnitSpiral | Call::UnitSpiralTable
+    )
 }
 
 /// A count, or a dash where there is none and can be none.
@@ -193,22 +196,29 @@ mod tests {
         let convert = Request::Convert(full, 1);
         add(&mut tally, convert.clone(), Ok(706), None);
         add(&mut tally, convert, refuse(24, 0), None);
+        let look_up = Request::UnitSpiral(500, 40_000);
+        add(&mut tally, look_up, Ok(2), None);
+        let behind = Request::UnitSpiral(501, 500_001);
+        add(&mut tally, behind, refuse(25, 0), None);
+        add(&mut tally, Request::UnitSpiralTable, refuse(16, 0), None);
         for (name, expected) in [
-            ("accepted ", "1 0 0 0 2 0 1 1 1 1 1 1 1"),
-            ("accepted, 64", "1 0 0 - 1 0 1 1 1 - 1 1"),
-            ("refused 2 ", "0 0 0 - - 0 0 0 - - 0 0 0"),
-            ("refused 8", "0 0 0 - - 0 1 0 0 - 0 0 1"),
-            ("refused 7", "0 0 0 - - 0 - 0 - - 0 0 0"),
-            ("refused 16", "1 - 0 0 0 0 0 0 0 0 - 0 -"),
-            ("refused 17", "- - - - - - - 1 - 0 - - -"),
-            ("refused 19", "- - - - - - - - 1 - - - -"),
-            ("refused 23", "- - - - - - - - - 1 - - -"),
-            ("refused 24", "- - - - - - - - - - - 1 -"),
-            ("all", "2 0 0 0 2 0 2 2 2 2 1 2 2"),
+            ("accepted ", "1 0 0 0 2 0 1 1 1 1 1 1 1 0 1"),
+            ("accepted, 64", "1 0 0 - 1 0 1 1 1 - 1 1 - -"),
+            ("refused 2 ", "0 0 0 - - 0 0 0 - - 0 0 - - 0"),
+            ("refused 8", "0 0 0 - - 0 1 0 0 - 0 0 - - 1"),
+            ("refused 7", "0 0 0 - - 0 - 0 - - 0 0 - - 0"),
+            ("refused 11", "0 0 0 0 - 0 0 0 0 - 0 0 0 - 0"),
+            ("refused 16", "1 - 0 0 0 0 0 0 0 0 - 0 0 1 -"),
+            ("refused 17", "- - - - - - - 1 - 0 - - - - -"),
+            ("refused 19", "- - - - - - - - 1 - - - - - -"),
+            ("refused 23", "- - - - - - - - - 1 - - - - -"),
+            ("refused 24", "- - - - - - - - - - - 1 - - -"),
+            ("refused 25", "- - - - - - - - - - - - 1 - -"),
+            ("all", "2 0 0 0 2 0 2 2 2 2 1 2 2 1 2"),
         ] {
             assert_eq!(columns(&tally, name).join(" "), expected);
         }
-        assert_eq!(tally.total(), 15);
+        assert_eq!(tally.total(), 18);
     }
 
     #[test]
@@ -231,6 +241,9 @@ mod tests {
         tally.answered[Call::Height as usize][21] = 0;
         tally.answered[Call::Edition as usize][16] = 0;
         tally.answered[Call::Convert as usize][24] = 0;
+        tally.answered[Call::UnitSpiral as usize][25] = 0;
+        tally.answered[Call::UnitSpiralTable as usize][11] = 0;
+        tally.answered[Call::UnitSpiralTable as usize][16] = 0;
         tally.told[3] = 0;
         tally.told[16] = 0;
         tally.told[17] = 0;
@@ -244,6 +257,8 @@ mod tests {
                 "points refused 20",
                 "height refused 21",
                 "convert refused 24",
+                "look-up refused 25",
+                "table refused 16",
                 "text telling refused 3"
             ]
         );

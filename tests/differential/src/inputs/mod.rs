@@ -30,6 +30,7 @@ use reference::samples::dice::Dice;
 use reference::samples::point_edges::{case_1, staircase};
 use reference::samples::profile_edges::{crest, waves};
 use reference::samples::sheet_fields::sheet_in;
+use reference::samples::unit_spiral_edges::any_look_up;
 pub use sheets::any_sheet;
 
 /// The inputs of a seed.
@@ -99,7 +100,8 @@ impl Inputs {
 /// Case 1's curve; case 1 in edition 1 and a road of 64 curves in edition 2 with the
 /// calls that take a sheet; both, and a road of three curves, whose sheets differ in
 /// length, written in both editions and converted both ways; one and 64 curves by
-/// points, and profiles of one and 32 vertices.
+/// points, and profiles of one and 32 vertices; the last row of the unit spiral table
+/// with the longest spiral, and the table.
 fn sized_requests(seed: u64) -> Vec<Request> {
     let mut dice = Dice::new(seed);
     let [three, full] = [3, MOST_CURVES].map(|n| road_for(&mut dice, Writer(FIRST), n));
@@ -120,6 +122,8 @@ fn sized_requests(seed: u64) -> Vec<Request> {
         let station = profile.vertices[0].station as u64;
         requests.push(Request::Height(profile.numbers(), station));
     }
+    requests.push(Request::UnitSpiral(500, 500_000));
+    requests.push(Request::UnitSpiralTable);
     requests
 }
 
@@ -142,7 +146,7 @@ fn any_request_and_room(dice: &mut Dice) -> (Request, Room) {
 }
 
 fn any_request(dice: &mut Dice) -> Request {
-    match dice.between(0, 53) {
+    match dice.between(0, 57) {
         0..=6 => Request::Stations(any_sheet(dice)),
         7..=8 => Request::Check(any_sheet(dice)),
         9..=12 => Request::Rewrite(any_sheet(dice)),
@@ -154,7 +158,12 @@ fn any_request(dice: &mut Dice) -> Request {
         36..=41 => Request::FromPoints(any_survey(dice)),
         42..=46 => any_height(dice),
         47..=48 => Request::Edition(any_sheet(dice)),
-        _ => any_conversion(dice),
+        49..=53 => any_conversion(dice),
+        54..=56 => {
+            let (thousandth, length) = any_look_up(dice);
+            Request::UnitSpiral(thousandth, length)
+        }
+        _ => Request::UnitSpiralTable,
     }
 }
 

@@ -21,6 +21,7 @@ use reference::samples::sheet_edges;
 use reference::samples::sheet_fields::{edition_in_turn, editions_for, sheet_in, sheet_of_any};
 use reference::samples::station_cases::named_sheets;
 use reference::samples::station_sheets::full_length_edges;
+use reference::samples::unit_spiral_edges;
 use reference::samples::writer_edges;
 use reference::sheet;
 
@@ -45,6 +46,8 @@ pub fn named_requests() -> Vec<NamedRequest> {
         points(),
         heights(&mut dice),
         conversions(&mut dice),
+        look_ups(),
+        tables(),
     ]
     .concat();
     let without_room = without_room(&requests);
@@ -241,6 +244,24 @@ fn conversions(dice: &mut Dice) -> Vec<NamedRequest> {
     requests.collect()
 }
 
+fn look_ups() -> Vec<NamedRequest> {
+    let edges = unit_spiral_edges::edges().into_iter();
+    let requests = edges.map(|edge| {
+        request_of(edge, |call| {
+            let request = Request::UnitSpiral(call.thousandth, call.length);
+            (request, Room::Entries(call.room))
+        })
+    });
+    requests.collect()
+}
+
+fn tables() -> Vec<NamedRequest> {
+    let rooms = unit_spiral_edges::table_rooms().into_iter();
+    let requests =
+        rooms.map(|room| request_of(room, |room| (Request::UnitSpiralTable, Room::Entries(room))));
+    requests.collect()
+}
+
 fn points() -> Vec<NamedRequest> {
     let edges = point_edges::edges().into_iter();
     let requests = edges.map(|edge| {
@@ -428,6 +449,8 @@ mod tests {
             points().len(),
             heights(&mut dice).len(),
             conversions(&mut dice).len(),
+            look_ups().len(),
+            tables().len(),
         ];
         // Of the calculator's lines 622 sheets are made; 12 of them have a room that
         // is too small.
@@ -447,9 +470,11 @@ mod tests {
                 1_054,
                 1_988,
                 454,
+                502 * 4 + 14 * 10 * 5 + 17 + 32,
+                8,
             ]
         );
-        let without_room = 7_054;
+        let without_room = 7_633;
         let all = counts.iter().sum::<usize>() + without_room;
         assert_eq!(named_requests().len(), all);
     }
@@ -477,8 +502,8 @@ mod tests {
     }
 
     /// Every refusal of every call is claimed; too small rooms only of the calls
-    /// of a line, of pegs, of points, of heights and of conversions, the other calls have every size
-    /// elsewhere.
+    /// of a line, of pegs, of points, of heights, of conversions and of the unit spiral
+    /// table, the other calls have every size elsewhere.
     #[test]
     fn every_refusal_is_claimed() {
         for call in Call::ALL {
@@ -491,6 +516,8 @@ mod tests {
                     | Call::FromPoints
                     | Call::Height
                     | Call::Convert
+                    | Call::UnitSpiral
+                    | Call::UnitSpiralTable
             ) {
                 expected.remove(&16);
             }
