@@ -15,6 +15,7 @@ pub mod Tangent
 pub mod ElementsWithin
 pub mod OffsetsWithin
 pub mod PegsWithin
+pub mod LookUpWithin
 pub mod NearStations
 pub mod Lengths
 pub mod StationsWithin

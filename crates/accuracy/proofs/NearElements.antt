@@ -22,7 +22,7 @@ near-rounded {q = q} m x′ y′ above e f h =
     }
 
 -- A ratio at scale 10⁹ times a length in mm, over 10⁶, is in µm.
-near-length : {q : ℤ} {v : Fraction} {x y : ℕ} (k x′ y′ : ℕ) → k * x + 500000000 ≤ x′ * 1000000 → k * y + 500000000 ≤ y′ * 1000000
+pub near-length : {q : ℤ} {v : Fraction} {x y : ℕ} (k x′ y′ : ℕ) → k * x + 500000000 ≤ x′ * 1000000 → k * y + 500000000 ≤ y′ * 1000000
     → Near scale q v x y → Near 1000 (rounded (pos k *ℤ q) 1000000) (nat k ⊗ v) x′ y′
 near-length k x′ y′ e f h = near-rounded 1000000 x′ y′ (lit< tt) e f (near-multiple k h)
 

@@ -4,3 +4,4 @@ pub mod ExactStations
 pub mod Accuracy
 pub mod ExactOffsets
 pub mod NearestMicrometre
+pub mod ExactLookUp

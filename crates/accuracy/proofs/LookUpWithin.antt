@@ -1,0 +1,45 @@
+-- X and Y that the unit spiral table's look-up answers lie within 3 µm of the exact ones. Assumes nothing.
+use mathlib.Core.Path.{_≡_, ap}
+use Prim.Native.Nat.{ℕ, _≤_}
+use native.Mathlib.Omega.{arith}
+use lib.Dec.{lit<, lit≤}
+use borrow.Author.Tests.{leb-true}
+use Rattle.refusals.specs.Outcomes.{passed}
+use Rattle.refusals.specs.Order.{outcome}
+use Rattle.refusals.proofs.InOrder.{all-hold}
+use Rattle.numbers.specs.Fractions.{whole, nat}
+use Rattle.spiral_table.specs.UnitSpiralTable.{rowAngle}
+use Rattle.spiral_table.specs.LookUp.{endBy, lookUpChecks}
+use Rattle.accuracy.specs.Accuracy.{spiralTolerance}
+use Rattle.accuracy.specs.ExactLookUp.{exactRowAngle, exactEndX, exactEndY, EndWithin}
+use Rattle.accuracy.proofs.Parts.{minus}
+use Rattle.accuracy.proofs.Nearness.{Near, near-nat, near-part}
+use Rattle.accuracy.proofs.Powers.{part-top}
+use Rattle.accuracy.proofs.Terms.{Bound, Term}
+use Rattle.accuracy.proofs.UnitSpiral.{near-unit-x, near-unit-y}
+use Rattle.accuracy.proofs.NearElements.{near-length}
+use Rattle.accuracy.proofs.ElementsWithin.{within}
+
+-- The angle of a row is exact.
+abbrev rowBound : Bound
+rowBound = record { most = 500000000; short = 0; over = 0 }
+
+row-angle : (r : ℕ) → r ≤ 500 → Term (rowAngle r) (exactRowAngle r) rowBound
+unfolding rowAngle exactRowAngle whole
+row-angle r h =
+    record {
+      sign = ap minus (part-top (nat r) (lit< tt));
+      fits = omega (arith, h);
+      near = near-part 1000 (lit< tt) (near-nat 1000000 r);
+    }
+
+pub look-up-within : (r L : ℕ) → outcome (lookUpChecks r L) ≡ passed → EndWithin r L
+unfolding lookUpChecks endBy exactEndX exactEndY
+look-up-within r L e =
+    let checked = all-hold (lookUpChecks r L) e in
+    let angle = row-angle r (leb-true r 500 (checked .0)) in
+    let short = leb-true L 500000 (checked .1) in
+    record {
+      X = within spiralTolerance (near-length L 2000 2000 (omega (arith, short)) (omega (arith, short)) (near-unit-x (exactRowAngle r) angle)) (lit≤ tt) (lit≤ tt);
+      Y = within spiralTolerance (near-length L 2000 2000 (omega (arith, short)) (omega (arith, short)) (near-unit-y (exactRowAngle r) angle)) (lit≤ tt) (lit≤ tt);
+    }
