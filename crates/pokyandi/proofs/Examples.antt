@@ -17,6 +17,8 @@ use Rattle.packed_sheet.proofs.Examples as sheets
 use Rattle.elements.specs.declared.Elements.{Elements}
 use Rattle.elements.proofs.Replies.{found-elements}
 use Rattle.elements.proofs.Examples as curves
+use Rattle.spiral_table.specs.LookUp.{lookUpChecks}
+use Rattle.spiral_table.proofs.Examples as spirals
 use Rattle.stationing.specs.Answer.{stationsIn}
 use Rattle.stationing.proofs.Examples.{noCurveFrom}
 use Rattle.stationing.proofs.Examples as lines
@@ -27,8 +29,8 @@ use Rattle.station_report.specs.Report.{sheetChecks}
 use Rattle.station_report.proofs.Examples.{sheet4}
 use Rattle.station_report.proofs.Examples as refusedSheets
 use Rattle.pokyandi.specs.Answers.{answerNumber}
-use Rattle.pokyandi.specs.Calls.{sheetStations, sheetPegChecks, sheetPeg, checkReply, sheetNumbers, toldChecks, numbersSheet, editionReply, elementNumbers, version}
-use Rattle.pokyandi.proofs.Replies.{stations-reply, refused-peg, peg-reply, edition-reply, refused-edition, found-numbers}
+use Rattle.pokyandi.specs.Calls.{sheetStations, sheetPegChecks, sheetPeg, checkReply, sheetNumbers, toldChecks, numbersSheet, editionReply, elementNumbers, endNumbers, version}
+use Rattle.pokyandi.proofs.Replies.{stations-reply, refused-peg, peg-reply, edition-reply, refused-edition, found-numbers, found-end, refused-end}
 
 -- Case 10's sheet without its last byte.
 abbrev cut : List ℕ
@@ -37,7 +39,7 @@ cut = 0x10 ∷ 0x11 ∷ 0xA0 ∷ 0x00 ∷ 0x00 ∷ 0x00 ∷ 0x00 ∷ 0xF4 ∷ 0x
 pub record Examples : Type 0 where
   pub count : answerNumber (filled 257) ≡ 257
   pub refusal : answerNumber (unfilled 15 64) ≡ 64424509504
-  pub version-0-8-0 : version ≡ 8000
+  pub version-0-9-0 : version ≡ 9000
   -- ---- document 01's cases
   pub case-1 : elementNumbers 177764 350000 40000 ≡ 39986941 ∷ 761727 ∷ 19997824 ∷ 190454 ∷ 261638467 ∷ 180989280 ∷ []
   pub case-4-checked : checkReply sheet4 ≡ unfilled 13 1
@@ -53,6 +55,10 @@ pub record Examples : Type 0 where
   pub case-9-peg-numbers : fill (sheetPegChecks sheet9 250000000) (sheetPeg sheet9 250000000) (replicate 6 (pos 7)) .buffer
       ≡ pos 0 ∷ pos 0 ∷ pos 250000000 ∷ pos 0 ∷ pos 0 ∷ pos 7 ∷ []
   pub case-10-cut-peg : fill (sheetPegChecks cut 0) (sheetPeg cut 0) [] .reply ≡ unfilled 1 0
+  -- ---- the unit spiral
+  pub spiral : fill (lookUpChecks 500 48000) (endNumbers 500 48000) (7 ∷ 7 ∷ 7 ∷ []) .reply ≡ filled 2
+  pub spiral-numbers : fill (lookUpChecks 500 48000) (endNumbers 500 48000) (7 ∷ 7 ∷ 7 ∷ []) .buffer ≡ 46813809 ∷ 7858279 ∷ 7 ∷ []
+  pub no-such-row : fill (lookUpChecks 501 500001) (endNumbers 501 500001) [] .reply ≡ unfilled 25 0
   -- ---- the same line from the greatest start, in edition 2
   pub far-edition : editionReply farSheet ≡ filled 2
   pub far-numbers : sheetNumbers farSheet ≡ 0 ∷ 70 ∷ 8 ∷ 4000000000 ∷ 500000 ∷ []
@@ -102,13 +108,19 @@ farStations : (filled 1 ≡ fill (sheetChecks farSheet) (sheetStations farSheet)
 farStations =
     stations1 farSheet 4000000000 4000500000000 (sheets.examples .second-greatest-read) (sheets.examples .second-greatest) (lines.examples .greatest-start) (lines.examples .greatest-start-row)
 
+-- The look-up of a ramp's spiral, into three numbers of which one is left.
+spiral500 : (filled 2 ≡ fill (lookUpChecks 500 48000) (endNumbers 500 48000) (7 ∷ 7 ∷ 7 ∷ []) .reply)
+    × (46813809 ∷ 7858279 ∷ 7 ∷ [] ≡ fill (lookUpChecks 500 48000) (endNumbers 500 48000) (7 ∷ 7 ∷ 7 ∷ []) .buffer)
+unfolding fill withRoom
+spiral500 = found-end 500 48000 (record { x = 46813809; y = 7858279 }) (7 ∷ 7 ∷ 7 ∷ []) (sym (spirals.examples .ramp)) (refl, refl)
+
 pub examples : Examples
 unfolding numbered editionCheck countCheck numbersChecks toldChecks withRoom fill answerNumber checkReply sheetNumbers numbersSheet numbersTo lineNumbers lineOf entries
 examples =
     record {
       count = refl;
       refusal = refl;
-      version-0-8-0 = refl;
+      version-0-9-0 = refl;
       case-1 = sym (found-numbers 177764 350000 40000 elements1 (found-elements 177764 350000 40000 elements1 (sym (curves.examples .case-1))));
       case-4-checked = ap (λ (o : Outcome). countAfter o (length (sheetStations sheet4))) (refusedSheets.examples .case-4);
       case-9-numbers = ap lineNumbers (sheets.examples .case-9-line);
@@ -122,6 +134,9 @@ examples =
       case-9-peg = sym (peg9 .0);
       case-9-peg-numbers = sym (peg9 .1);
       case-10-cut-peg = sym (refused-peg cut 0 [] (sheets.examples .case-10-cut) .0);
+      spiral = sym (spiral500 .0);
+      spiral-numbers = sym (spiral500 .1);
+      no-such-row = sym (refused-end 501 500001 [] (sym (spirals.examples .row-first)) .0);
       far-edition = sym (edition-reply farSheet (sheets.examples .second-greatest-read) (sym (sheets.examples .second-greatest-edition)));
       far-numbers = ap lineNumbers (sheets.examples .second-greatest);
       far-stations = sym (farStations .1);

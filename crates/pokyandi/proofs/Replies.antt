@@ -1,7 +1,7 @@
 -- What each call replies and leaves in the buffer, from the replies of the calls that it makes. Assumes nothing.
 use mathlib.Core.Path.{_≡_, refl, sym, _∙_, ap}
 use mathlib.Core.Bool.{Bool}
-use mathlib.Core.List.{List, [], _∷_}
+use mathlib.Core.List.{List, [], _∷_, map}
 use Prim.Native.Nat.{ℕ, _≤_}
 use native.Mathlib.Omega.{arith}
 use lib.Dec.{leb}
@@ -12,6 +12,8 @@ use Rattle.refusals.specs.Outcomes.{Outcome, passed, refused, need, _▹_}
 use Rattle.refusals.specs.Order.{Checks, unchecked, _⨾_, outcome}
 use Rattle.refusals.specs.Filling.{FillReply, filled, unfilled, countAfter, withRoom, fill}
 use Rattle.refusals.proofs.Joining.{passed-right, regroup}
+use Rattle.refusals.specs.Replying.{declined}
+use Rattle.refusals.proofs.Replied.{replied, unreplied}
 use Rattle.refusals.proofs.FillWays.{refused-fill, refill}
 use Rattle.line.specs.declared.Line.{Line}
 use Rattle.line.specs.Checks.{fieldChecks}
@@ -26,6 +28,10 @@ use Rattle.packed_sheet.proofs.RoundTrip.{read-passes}
 use Rattle.elements.specs.declared.Elements.{Elements}
 use Rattle.elements.specs.Answer.{valuesBy, elementChecks}
 use Rattle.elements.proofs.Replies.{FoundElements}
+use Rattle.elements.specs.declared.SpiralPoint.{SpiralPoint}
+use Rattle.elements.specs.declared.PointAnswer.the-variants.{Found}
+use Rattle.elements.specs.SpiralPoint.{Offsets, pointReplyOf}
+use Rattle.spiral_table.specs.LookUp.{endBy, lookUpChecks, lookUpReply}
 use Rattle.stationing.specs.Stations.{stationRow}
 use Rattle.stationing.specs.Answer.{alignmentChecks, stationsIn}
 use Rattle.stationing.proofs.Accepted.{few}
@@ -35,7 +41,7 @@ use Rattle.coordinates.proofs.Accepted.{line-accepted}
 use Rattle.pegs.specs.Pegs.{pegChecks}
 use Rattle.pegs.specs.Numbers.{stationNumbers}
 use Rattle.station_report.specs.Report.{sheetChecks}
-use Rattle.pokyandi.specs.Calls.{sheetStations, sheetPegChecks, sheetPeg, checkReply, sheetNumbers, toldChecks, numbersSheet, editionReply, pointNumbers, elementValues, elementNumbers, numbersOf}
+use Rattle.pokyandi.specs.Calls.{sheetStations, sheetPegChecks, sheetPeg, checkReply, sheetNumbers, toldChecks, numbersSheet, editionReply, pointNumbers, elementValues, elementNumbers, numbersOf, offsetNumbers, endNumbers, pointNumbersOf}
 
 -- The numbers of a line that passes a call's checks.
 line-reply : (checks : Checks) (whole : Line) → outcome checks ≡ passed → whole .count ≤ 64 → {line : Line} → line ≡ whole
@@ -184,3 +190,24 @@ pub found-reply : (A R L : ℕ) (e : Elements) (buffer : List ℕ) {reply : Fill
     × (after ≡ fill (elementChecks A R L) (elementNumbers A R L) buffer .buffer)
 found-reply A R L e buffer f told =
     refill unchecked (elementChecks A R L) (numbersOf e) (elementNumbers A R L) buffer (sym (f .checked)) (found-numbers A R L e f) told
+
+-- ---- the call on one spiral
+
+module _ (r L : ℕ) where
+  -- The offsets that were looked up are the rule's,
+  pub found-end : (p : SpiralPoint) (buffer : List ℕ) {reply : FillReply} {after : List ℕ} → pointReplyOf (Found p) ≡ lookUpReply r L
+      → (reply ≡ fill unchecked (pointNumbersOf p) buffer .reply) × (after ≡ fill unchecked (pointNumbersOf p) buffer .buffer)
+      → (reply ≡ fill (lookUpChecks r L) (endNumbers r L) buffer .reply)
+      × (after ≡ fill (lookUpChecks r L) (endNumbers r L) buffer .buffer)
+  unfolding lookUpReply endNumbers
+  found-end p buffer looked told =
+      let given = replied (lookUpChecks r L) (endBy r L) looked in
+      refill unchecked (lookUpChecks r L) (pointNumbersOf p) (endNumbers r L) buffer (sym (given .0))
+      (ap (λ (o : Offsets). map natAbs (offsetNumbers o)) (given .1)) told
+
+  -- and so is a refusal.
+  pub refused-end : (buffer : List ℕ) {n p : ℕ} → declined n p ≡ lookUpReply r L
+      → (unfilled n p ≡ fill (lookUpChecks r L) (endNumbers r L) buffer .reply)
+      × (buffer ≡ fill (lookUpChecks r L) (endNumbers r L) buffer .buffer)
+  unfolding lookUpReply
+  refused-end buffer told = refused-fill (lookUpChecks r L) (endNumbers r L) buffer (unreplied (lookUpChecks r L) (endBy r L) told)
