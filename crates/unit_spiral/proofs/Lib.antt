@@ -1,2 +1,2 @@
 -- What the program prints.
-pub mod TextLength
+pub mod PrintedText

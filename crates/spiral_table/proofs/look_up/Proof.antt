@@ -1,8 +1,7 @@
 -- `look_up`: one case for each way out. Assumes nothing.
 use mathlib.Core.Path.{_≡_, _∙_, ap}
-use lib.IntN.{ℤ}
+use native.Mathlib.Omega.{arith}
 use borrow.Author.Tests.{le-leb, lt-leb}
-use Rattle.refusals.specs.Outcomes.{need, _▹_}
 use Rattle.refusals.proofs.Replied.{passed-reply, refused-reply}
 use Rattle.elements.specs.WorkingRule.{scaledLength}
 use Rattle.spiral_table.specs.LookUp.{endBy, lookUpChecks, lookUpReply}
@@ -14,14 +13,14 @@ returns : tie.Need-returns
 unfolding lookUpReply lookUpChecks
 returns c =
     let a = c .before .args in
-    refused-reply (lookUpChecks (a .thousandth) (a .length)) (endBy (a .thousandth) (a .length)) (rw (lt-leb _ _ (c .if1 .taken)))
+    refused-reply (lookUpChecks (a .thousandth) (a .length)) (endBy (a .thousandth) (a .length)) (rw (lt-leb (a .thousandth) 500 (omega (arith, c .if1 .taken))))
 
 returns-2 : tie.Need-returns-2
 unfolding lookUpReply lookUpChecks
 returns-2 c =
     let a = c .before .before .args in
     refused-reply (lookUpChecks (a .thousandth) (a .length)) (endBy (a .thousandth) (a .length))
-    (rw (le-leb _ _ (c .before .if1 .left), lt-leb _ _ (c .if2 .taken)))
+    (rw (le-leb (a .thousandth) 500 (omega (arith, c .before .if1 .left)), lt-leb (a .length) 500000 (omega (arith, c .if2 .taken))))
 
 row-at-requires : tie.Need-row-at-requires
 row-at-requires c κs = search needs
@@ -41,7 +40,10 @@ returns-3 c =
     let X = c .before .scaled-length .ensures ∙ ap (scaledLength (a .length)) (row .0) in
     let Y = c .scaled-length2 .ensures ∙ ap (scaledLength (a .length)) (row .1) in
     passed-reply (lookUpChecks (a .thousandth) (a .length)) (endBy (a .thousandth) (a .length))
-    (rw (le-leb _ _ (c .before .before .before .before .if1 .left), le-leb _ _ (c .before .before .before .if2 .left)))
+    (rw (
+      le-leb (a .thousandth) 500 (omega (arith, c .before .before .before .before .if1 .left)),
+      le-leb (a .length) 500000 (omega (arith, c .before .before .before .if2 .left)),
+    ))
     (λ j. record { x = X j; y = Y j })
 
 pub look-up-spec : {M : Type 1} → statement M

@@ -23,7 +23,7 @@ abbrev μ-loop : tie.MeasureT-loop
 μ-loop ratios₀ table k₀ ratios k = 1002 - k
 
 returns : tie.Need-returns Inv-loop μ-loop
-returns c = small-fill unchecked unitSpiralTable _ refl table-length (c .if1 .taken)
+returns c = small-fill unchecked unitSpiralTable (c .before .before .args .ratios .now) refl table-length (omega (arith, c .if1 .taken))
 
 entries-requires : tie.Need-entries-requires Inv-loop μ-loop
 entries-requires c κs = search needs

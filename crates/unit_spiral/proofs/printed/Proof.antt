@@ -10,7 +10,7 @@ use Rattle.refusals.proofs.FillWays.{exact-fill}
 use Rattle.report.specs.Text.{tableText}
 use Rattle.spiral_table.specs.UnitSpiralTable.{unitSpiralTable}
 use Rattle.spiral_table.proofs.EachEntry.{table-length}
-use Rattle.unit_spiral.proofs.TextLength.{text-length}
+use Rattle.unit_spiral.proofs.PrintedText.{printed-text}
 use Rattle.unit_spiral.proofs.printed.Statement.{statement}
 use Rattle.unit_spiral.proofs.printed.Tie as tie
 
@@ -34,7 +34,7 @@ returns c =
     let numbers = c .before .before .before .before .before .table-numbers .ensures .1 ∙ exact-fill unitSpiralTable _ table-length in
     c .before .table-text .ensures .1
     ∙ ap (λ (table : List ℕ). fill unchecked (tableText table) (replicate 11574 0) .buffer) numbers
-    ∙ exact-fill (tableText unitSpiralTable) (replicate 11574 0) text-length
+    ∙ exact-fill (tableText unitSpiralTable) (replicate 11574 0) (printed-text .size)
 
 pub printed-spec : {M : Type 1} → statement M
 printed-spec =
