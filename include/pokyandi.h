@@ -1,6 +1,6 @@
 /* Pokyandi: the stations of a road alignment from its packed sheet (document 01), the element under a station, its line in numbers, the
- * sheet in its other edition (document 02), a line from the coordinates of its points, the elements of one curve, the height of a profile
- * at a station.
+ * sheet in its other edition (document 02), a line from the coordinates of its points, the elements of one curve, the unit spiral table
+ * and X and Y from it, the height of a profile at a station.
  *
  * Link target/staticlib/libpokyandi.a, which `rt staticlib pokyandi` makes for Linux on x86-64. There is no state; any number of
  * threads may call at once. A call allocates nothing and takes at most POKYANDI_STACK_BYTES of stack.
@@ -11,7 +11,7 @@
  *
  * An answer holds two numbers of 32 bits:
  *   upper 0            done, the lower is the count of entries, of pokyandi_edition the edition
- *   upper 1 to 24      refused, the upper is the refusal's number, the lower its place: the index of a distance (0 to n) for 8
+ *   upper 1 to 25      refused, the upper is the refusal's number, the lower its place: the index of a distance (0 to n) for 8
  *                      and 15, the number of a curve (1 to n) for 9 to 14, 19 and 20, of a vertex (1 to n) for 21 to 23 (0 for the
  *                      first grade), else 0; of several refusals the first in order
  */
@@ -25,8 +25,8 @@
 extern "C" {
 #endif
 
-/* The version of this header, 0.8.0: major x 1,000,000 + minor x 1,000 + patch. A later library may have more refusals. */
-#define POKYANDI_VERSION 8000
+/* The version of this header, 0.9.0: major x 1,000,000 + minor x 1,000 + patch. A later library may have more refusals. */
+#define POKYANDI_VERSION 9000
 
 /* The version of the library that is linked. */
 uint64_t pokyandi_version(void);
@@ -39,7 +39,8 @@ enum pokyandi_reason {
     POKYANDI_START = 6, POKYANDI_TRAILING = 7, POKYANDI_DISTANCE = 8, POKYANDI_DEFLECTION = 9, POKYANDI_RADIUS = 10, POKYANDI_SPIRAL = 11,
     POKYANDI_LEAST_RADIUS = 12, POKYANDI_LEAST_SPIRAL = 13, POKYANDI_SHORT_ARC = 14, POKYANDI_SHORT_STRAIGHT = 15, POKYANDI_SMALL_BUFFER = 16,
     POKYANDI_STATION = 17, POKYANDI_COORDINATE = 18, POKYANDI_NO_TURN = 19, POKYANDI_WIDE_TURN = 20,
-    POKYANDI_VERTICAL_CURVE = 21, POKYANDI_GRADE = 22, POKYANDI_SIGHT = 23, POKYANDI_FAR_START = 24
+    POKYANDI_VERTICAL_CURVE = 21, POKYANDI_GRADE = 22, POKYANDI_SIGHT = 23, POKYANDI_FAR_START = 24,
+    POKYANDI_THOUSANDTH = 25
 };
 
 static inline uint32_t pokyandi_refusal(uint64_t answer) { return (uint32_t)(answer >> 32); }
@@ -79,11 +80,12 @@ static inline const char *pokyandi_words(uint32_t refusal) {
     case POKYANDI_GRADE: return "grade beyond 120,000 millionths (12 percent) either way";
     case POKYANDI_SIGHT: return "vertical curve shorter than the stopping distance needs";
     case POKYANDI_FAR_START: return "start over 200,000,000 mm, the greatest of edition 1";
+    case POKYANDI_THOUSANDTH: return "spiral angle over 500 thousandths of a radian; take a row of the table, 0 to 500";
     default: return "unknown refusal";
     }
 }
 
-/* Entries that are enough for every sheet, line, list of points, curve and profile. */
+/* Entries that are enough for every sheet, line, list of points, curve, profile and look-up, and for the unit spiral table. */
 #define POKYANDI_SHEET_BYTES 706
 #define POKYANDI_LINE_NUMBERS 325
 #define POKYANDI_POINT_NUMBERS 132
@@ -94,6 +96,8 @@ static inline const char *pokyandi_words(uint32_t refusal) {
 #define POKYANDI_ELEMENT_NUMBERS 6
 #define POKYANDI_PROFILE_NUMBERS 100
 #define POKYANDI_HEIGHT_NUMBERS 1
+#define POKYANDI_OFFSET_NUMBERS 2
+#define POKYANDI_TABLE_NUMBERS 1002
 
 /* The stations of a sheet in um: TS, SC, CS, ST of each curve in order, then the end. Count: 4 x n + 1. Refusals: 1 to 15, then 16. */
 uint64_t pokyandi_stations(const uint8_t *sheet, size_t sheet_bytes, uint64_t *row, size_t row_numbers);
@@ -118,6 +122,15 @@ enum { POKYANDI_STRAIGHT = 0, POKYANDI_SPIRAL_IN = 1, POKYANDI_ARC = 2, POKYANDI
  * Refusals: 9, 10, 11, 14, then 16, all with place 0. */
 uint64_t pokyandi_elements(uint32_t deflection, uint32_t radius, uint32_t spiral, uint64_t *numbers, size_t numbers_room);
 enum { POKYANDI_X = 0, POKYANDI_Y = 1, POKYANDI_K = 2, POKYANDI_P = 3, POKYANDI_D = 4, POKYANDI_TT = 5 };
+
+/* X and Y of a spiral in um, from the unit spiral table; the indexes are POKYANDI_X and POKYANDI_Y. The thousandth is the spiral's angle,
+ * L / 2R, in thousandths of a radian, 0 to 500; the length is in mm. They are X and Y of the elements of a curve whose spiral has this
+ * length and this angle. Count: 2. Refusals: 25 for a thousandth over 500, 11 for a length over 500,000, then 16, all with place 0. */
+uint64_t pokyandi_unit_spiral(uint32_t thousandth, uint32_t length, uint64_t *offsets, size_t offsets_numbers);
+
+/* The unit spiral table: x and y of the spiral of length one at 0, 1, .. 500 thousandths of a radian, in billionths. Row i has x at 2 x i
+ * and y at 2 x i + 1. Count: 1,002. Refusal: 16. */
+uint64_t pokyandi_unit_spiral_table(uint64_t *ratios, size_t ratios_numbers);
 
 /* A line in numbers has five for its head, n, V (km/h), e (percent), start (mm) and distance 0 (mm), and then five for each curve: side,
  * A (seconds of arc), R, L and the distance behind it (mm). */

@@ -3,7 +3,7 @@
 use crate::baseline::Baseline;
 #[cfg(before)]
 use crate::before::Before;
-use crate::inputs::{Inputs, Road};
+use crate::inputs::{Inputs, Road, Spiral};
 use crate::job::{Job, Task};
 use crate::library::Library;
 use crate::profiles::Height;
@@ -28,6 +28,8 @@ pub fn compare(job: Job, inputs: &Inputs) -> Result<(), String> {
             Task::Points => compare_survey(&job.surveys(inputs)[i], &mut library, &mut reference),
             Task::Height => compare_height(&job.heights(inputs)[i], &mut library, &mut reference),
             Task::Elements => compare_curve(inputs.curves[i], &mut library, &mut reference),
+            Task::LookUp => compare_spiral(inputs.spirals[i], &mut library, &mut reference),
+            Task::Table => same(library.unit_spiral_table(), reference.unit_spiral_table()),
             task => compare_road(task, &job.roads(inputs)[i], &mut library, &mut reference),
         };
         same.map_err(|problem| format!("{}, input {i}: {problem}", job.name))?;
@@ -58,7 +60,7 @@ fn compare_road(
         Task::Peg => same(library.peg(sheet, *station), reference.peg(sheet, *station)),
         Task::Check => same(library.check(sheet), reference.check(sheet)),
         Task::Text => same(library.text(sheet), reference.text(sheet)),
-        Task::Points | Task::Height | Task::Elements => {
+        Task::Points | Task::Height | Task::Elements | Task::LookUp | Task::Table => {
             unreachable!("they have inputs of their own")
         }
     }
@@ -154,6 +156,17 @@ fn compare_curve(
         ));
     }
     Ok(())
+}
+
+fn compare_spiral(
+    Spiral { thousandth, length }: Spiral,
+    library: &mut Library,
+    reference: &mut Reference,
+) -> Result<(), String> {
+    same(
+        library.unit_spiral(thousandth, length),
+        reference.unit_spiral(thousandth, length),
+    )
 }
 
 fn same<T: PartialEq + Debug>(library: T, reference: T) -> Result<(), String> {

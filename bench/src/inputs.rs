@@ -1,10 +1,11 @@
-//! The sheets, stations, curves, points and profiles that the jobs go through, the
-//! same in every run. All are accepted.
+//! The sheets, stations, curves, spirals, points and profiles that the jobs go through,
+//! the same in every run. All are accepted.
 
 use crate::profiles::Profiles;
 use crate::surveys::Surveys;
 use reference::curve::Curve;
 use reference::edition::{FIRST, SECOND};
+use reference::elements::GREATEST_SPIRAL;
 use reference::line::{Line, MOST_CURVES};
 use reference::pegs::stretches;
 use reference::samples::call::Callee::Writer;
@@ -13,6 +14,7 @@ use reference::samples::dice::Dice;
 use reference::samples::sheet_fields::sheet_in;
 use reference::samples::station_cases::named_sheets;
 use reference::sheet;
+use reference::unit_spiral::GREATEST_THOUSANDTH;
 use std::cell::LazyCell;
 
 const SEED: u64 = 5;
@@ -21,6 +23,8 @@ const FULL_SHEETS: usize = 32;
 const EIGHT_SHEETS: usize = 128;
 const SINGLE_SHEETS: usize = 256;
 const STRAIGHT_SHEETS: usize = 256;
+/// How many spirals are looked up.
+const SPIRALS: usize = 2_048;
 
 pub struct Inputs {
     /// Those of 64 curves; the first is the mountain road of the samples.
@@ -33,6 +37,8 @@ pub struct Inputs {
     pub straight: Vec<Road>,
     /// The curves of the full ones.
     pub curves: Vec<Curve>,
+    /// Spirals that are looked up, over all rows and lengths.
+    pub spirals: Vec<Spiral>,
     /// Lines by their points. The reference's table of sines, with which they are
     /// made, takes long: only jobs that use them wait for it.
     pub surveys: LazyCell<Surveys>,
@@ -48,6 +54,13 @@ pub struct Road {
     pub station: u64,
 }
 
+/// A spiral's angle in thousandths of a radian, and its length in mm.
+#[derive(Clone, Copy)]
+pub struct Spiral {
+    pub thousandth: u32,
+    pub length: u32,
+}
+
 impl Inputs {
     pub fn make() -> Inputs {
         let mut dice = Dice::new(SEED);
@@ -60,6 +73,7 @@ impl Inputs {
         let curves = full.iter().flat_map(|road| line_of(&road.sheet).curves);
         Inputs {
             curves: curves.collect(),
+            spirals: (0..SPIRALS).map(|_| random_spiral(&mut dice)).collect(),
             full,
             eight,
             single,
@@ -74,13 +88,14 @@ impl Inputs {
         let simple = self.curves.iter().filter(|curve| curve.l == 0).count();
         format!(
             "sheets, {} of 64 curves, {} of 8, {} of 1 and {} of none; \
-             {} curves ({simple} without spirals); lines, {} of 66 points and {} of 3; \
-             profiles, {} of 32 vertices, {} of 4 and {} of none",
+             {} curves ({simple} without spirals); {} spirals to look up; \
+             lines, {} of 66 points and {} of 3; profiles, {} of 32 vertices, {} of 4 and {} of none",
             self.full.len(),
             self.eight.len(),
             self.single.len(),
             self.straight.len(),
             self.curves.len(),
+            self.spirals.len(),
             self.surveys.full.len(),
             self.surveys.single.len(),
             self.profiles.full.len(),
@@ -103,6 +118,13 @@ fn random_sheets(dice: &mut Dice, curves: usize, count: usize) -> Vec<Vec<u8>> {
 /// The sheet of a road in edition 1.
 pub fn random_sheet(dice: &mut Dice, curves: usize) -> Vec<u8> {
     sheet_in(FIRST, &road_for(dice, Writer(FIRST), curves))
+}
+
+fn random_spiral(dice: &mut Dice) -> Spiral {
+    Spiral {
+        thousandth: dice.between(0, GREATEST_THOUSANDTH),
+        length: dice.between(0, GREATEST_SPIRAL),
+    }
 }
 
 fn roads_of(sheets: Vec<Vec<u8>>) -> Vec<Road> {

@@ -1,7 +1,7 @@
 //! The jobs: a call, and the inputs that it is made with one after the other.
 
 use crate::baseline::Baseline;
-use crate::inputs::{Inputs, Road};
+use crate::inputs::{Inputs, Road, Spiral};
 use crate::profiles::Height;
 use crate::side::Side;
 use reference::edition::{FIRST, SECOND};
@@ -28,6 +28,8 @@ pub enum Task {
     Points,
     Height,
     Elements,
+    LookUp,
+    Table,
 }
 
 impl Task {
@@ -67,7 +69,7 @@ pub struct Job {
     size: Size,
 }
 
-pub const JOBS: [Job; 36] = [
+pub const JOBS: [Job; 38] = [
     full("read-64", "read, 64 curves", Task::Read),
     full("write-64", "written, 64 curves", Task::Write),
     full("rewrite-64", "read and written, 64 curves", Task::Rewrite),
@@ -116,6 +118,8 @@ pub const JOBS: [Job; 36] = [
     job("height-4", "height, 4 vertices", Task::Height, Size::Four),
     straight("height-0", "height, no vertex", Task::Height),
     full("elements", "elements of one curve", Task::Elements),
+    full("look-up", "X and Y of one spiral, looked up", Task::LookUp),
+    full("table", "unit spiral table", Task::Table),
 ];
 
 const fn full(name: &'static str, title: &'static str, task: Task) -> Job {
@@ -191,6 +195,8 @@ impl Job {
             Task::Points => self.surveys(inputs).len(),
             Task::Height => self.heights(inputs).len(),
             Task::Elements => inputs.curves.len(),
+            Task::LookUp => inputs.spirals.len(),
+            Task::Table => 1,
             _ => self.roads(inputs).len(),
         }
     }
@@ -204,6 +210,8 @@ pub fn work<S: Side>(job: Job, side: &mut S, inputs: &Inputs, times: usize) {
             Task::Points => each_survey(side, job.surveys(inputs)),
             Task::Height => each_height(side, job.heights(inputs)),
             Task::Elements => each_curve(side, inputs),
+            Task::LookUp => each_spiral(side, inputs),
+            Task::Table => keep(side.unit_spiral_table()),
             task => each_road(task, side, job.roads(inputs)),
         }
     }
@@ -224,6 +232,13 @@ fn each_height<S: Side>(side: &mut S, heights: &[Height]) {
 fn each_curve<S: Side>(side: &mut S, inputs: &Inputs) {
     for curve in &inputs.curves {
         keep(side.elements(*black_box(curve)));
+    }
+}
+
+fn each_spiral<S: Side>(side: &mut S, inputs: &Inputs) {
+    for spiral in &inputs.spirals {
+        let Spiral { thousandth, length } = *black_box(spiral);
+        keep(side.unit_spiral(thousandth, length));
     }
 }
 
@@ -249,7 +264,7 @@ fn each_road<S: Side>(task: Task, side: &mut S, roads: &[Road]) {
             Task::Peg => keep(side.peg(sheet, black_box(*station))),
             Task::Check => keep(side.check(sheet)),
             Task::Text => keep(side.text(sheet)),
-            Task::Points | Task::Height | Task::Elements => {
+            Task::Points | Task::Height | Task::Elements | Task::LookUp | Task::Table => {
                 unreachable!("they have inputs of their own")
             }
         }

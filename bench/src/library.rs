@@ -2,7 +2,7 @@
 
 use crate::side::{Answer, Refused, Side};
 use pokyandi::{Refusal, ELEMENT_NUMBERS, HEIGHT_NUMBERS, LINE_NUMBERS, PEG_NUMBERS};
-use pokyandi::{ROW_NUMBERS, SHEET_BYTES, TEXT_BYTES};
+use pokyandi::{OFFSET_NUMBERS, ROW_NUMBERS, SHEET_BYTES, TABLE_NUMBERS, TEXT_BYTES};
 use reference::curve::Curve;
 use reference::edition::FIRST;
 use reference::points::Heading;
@@ -15,6 +15,8 @@ pub struct Library {
     peg: [i64; PEG_NUMBERS],
     height: [i64; HEIGHT_NUMBERS],
     text: [u8; TEXT_BYTES],
+    offsets: [u64; OFFSET_NUMBERS],
+    ratios: [u64; TABLE_NUMBERS],
     elements: [u64; ELEMENT_NUMBERS],
 }
 
@@ -27,6 +29,8 @@ impl Library {
             peg: [0; PEG_NUMBERS],
             height: [0; HEIGHT_NUMBERS],
             text: [0; TEXT_BYTES],
+            offsets: [0; OFFSET_NUMBERS],
+            ratios: [0; TABLE_NUMBERS],
             elements: [0; ELEMENT_NUMBERS],
         }
     }
@@ -95,6 +99,16 @@ impl Side for Library {
     fn height(&mut self, profile: &[i64], station: u64) -> Answer<&[i64]> {
         let count = pokyandi::height(profile, station, &mut self.height)?;
         Ok(&self.height[..count])
+    }
+
+    fn unit_spiral(&mut self, thousandth: u32, length: u32) -> Answer<&[u64]> {
+        let count = pokyandi::unit_spiral(thousandth, length, &mut self.offsets)?;
+        Ok(&self.offsets[..count])
+    }
+
+    fn unit_spiral_table(&mut self) -> Answer<&[u64]> {
+        let count = pokyandi::unit_spiral_table(&mut self.ratios)?;
+        Ok(&self.ratios[..count])
     }
 
     fn elements(&mut self, Curve { a, r, l }: Curve) -> Answer<()> {

@@ -1,9 +1,10 @@
 //! The reference. It has no call of its own for a check, which is reading and
-//! calculating there; the numbers of a line, its text and a profile it allocates for
-//! each call.
+//! calculating there; the numbers of a line, its text, a profile and the unit spiral
+//! table, whose rows it works out, it allocates for each call.
 
 use crate::side::{Answer, Refused, Side};
-use pokyandi::{HEIGHT_NUMBERS, LINE_NUMBERS, ROW_NUMBERS, SHEET_BYTES};
+use pokyandi::TABLE_NUMBERS;
+use pokyandi::{HEIGHT_NUMBERS, LINE_NUMBERS, OFFSET_NUMBERS, ROW_NUMBERS, SHEET_BYTES};
 use reference::curve::Curve;
 use reference::edition::FIRST;
 use reference::elements::{elements, Elements};
@@ -16,6 +17,7 @@ use reference::report::report;
 use reference::samples::surveys::Survey;
 use reference::sheet;
 use reference::stations::stations;
+use reference::unit_spiral::{unit_spiral, unit_spiral_table};
 
 pub struct Reference {
     line: [u32; LINE_NUMBERS],
@@ -24,6 +26,8 @@ pub struct Reference {
     peg: [i64; PEG_NUMBERS],
     height: [i64; HEIGHT_NUMBERS],
     text: String,
+    offsets: [u64; OFFSET_NUMBERS],
+    ratios: [u64; TABLE_NUMBERS],
     elements: Elements,
 }
 
@@ -36,6 +40,8 @@ impl Reference {
             peg: [0; PEG_NUMBERS],
             height: [0; HEIGHT_NUMBERS],
             text: String::new(),
+            offsets: [0; OFFSET_NUMBERS],
+            ratios: [0; TABLE_NUMBERS],
             elements: Elements {
                 x: 0,
                 y: 0,
@@ -112,6 +118,16 @@ impl Side for Reference {
     fn height(&mut self, profile: &[i64], station: u64) -> Answer<&[i64]> {
         let count = height(profile, station, &mut self.height)?;
         Ok(&self.height[..count])
+    }
+
+    fn unit_spiral(&mut self, thousandth: u32, length: u32) -> Answer<&[u64]> {
+        let count = unit_spiral(thousandth, length, &mut self.offsets)?;
+        Ok(&self.offsets[..count])
+    }
+
+    fn unit_spiral_table(&mut self) -> Answer<&[u64]> {
+        let count = unit_spiral_table(&mut self.ratios)?;
+        Ok(&self.ratios[..count])
     }
 
     fn elements(&mut self, Curve { a, r, l }: Curve) -> Answer<()> {

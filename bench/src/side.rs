@@ -48,6 +48,12 @@ pub trait Side {
     /// The height of a profile, mm, at a station.
     fn height(&mut self, profile: &[i64], station: u64) -> Answer<&[i64]>;
 
+    /// X and Y of a spiral, µm, from the unit spiral table.
+    fn unit_spiral(&mut self, thousandth: u32, length: u32) -> Answer<&[u64]>;
+
+    /// The unit spiral table.
+    fn unit_spiral_table(&mut self) -> Answer<&[u64]>;
+
     /// Works out the elements of a curve and keeps them.
     fn elements(&mut self, curve: Curve) -> Answer<()>;
 

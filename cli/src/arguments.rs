@@ -4,9 +4,10 @@ use crate::commands::profile::Wanted;
 use crate::commands::sheets::Sheets;
 use crate::commands::stations::Form;
 use crate::commands::stops::Every;
+use crate::commands::table::Spiral;
 use crate::edition;
 use crate::help;
-use crate::quantity::length_in_metres;
+use crate::quantity::{length_in_metres, number};
 use std::borrow::Cow;
 use std::ffi::{OsStr, OsString};
 use std::os::unix::ffi::OsStrExt;
@@ -46,6 +47,10 @@ pub enum Request {
     Show {
         sheet: OsString,
     },
+    Table {
+        as_csv: bool,
+        spiral: Option<Spiral>,
+    },
 }
 
 #[derive(Clone, Copy, PartialEq, Eq)]
@@ -58,6 +63,7 @@ enum Subcommand {
     Convert,
     Make,
     Show,
+    Table,
 }
 
 impl Subcommand {
@@ -71,6 +77,7 @@ impl Subcommand {
             "convert" => Ok(Subcommand::Convert),
             "make" => Ok(Subcommand::Make),
             "show" => Ok(Subcommand::Show),
+            "table" => Ok(Subcommand::Table),
             _ => Err(format!("{name} is no subcommand\n{}", help::USAGE)),
         }
     }
@@ -85,6 +92,7 @@ impl Subcommand {
             Subcommand::Convert => help::CONVERT,
             Subcommand::Make => help::MAKE,
             Subcommand::Show => help::SHOW,
+            Subcommand::Table => help::TABLE,
         }
     }
 
@@ -97,7 +105,7 @@ impl Subcommand {
             | Subcommand::Elements
             | Subcommand::Check
             | Subcommand::Convert => true,
-            Subcommand::Make | Subcommand::Show => false,
+            Subcommand::Make | Subcommand::Show | Subcommand::Table => false,
         }
     }
 
@@ -157,6 +165,9 @@ impl Words {
             match &*option {
                 "--as" if subcommand.takes_form() => {
                     once(&option, &mut read.form, form(&value()?)?)?;
+                }
+                "--as" if subcommand == Subcommand::Table => {
+                    once(&option, &mut read.form, csv(&value()?)?)?;
                 }
                 "--every" if subcommand.takes_distance() => {
                     once(&option, &mut read.every, every(&value()?)?)?;
@@ -233,6 +244,10 @@ impl Words {
                 let [sheet] = self.names("one sheet is wanted")?;
                 Ok(Request::Show { sheet })
             }
+            Subcommand::Table => Ok(Request::Table {
+                as_csv: form == Form::Csv,
+                spiral: self.spiral()?,
+            }),
         }
     }
 
@@ -245,6 +260,19 @@ impl Words {
             (None, true, Some(usual)) => Ok(Sheets::Named(vec![usual.into()])),
             (None, true, None) => Err("a sheet is missing".into()),
         }
+    }
+
+    /// The spiral that is looked up, where one is.
+    fn spiral(self) -> Result<Option<Spiral>, String> {
+        if self.names.is_empty() {
+            return Ok(None);
+        }
+        let [thousandth, length] = self.names("an angle and a length are wanted, or neither")?;
+        let thousandth = number(&thousandth.to_string_lossy(), "thousandths");
+        Ok(Some(Spiral {
+            thousandth: thousandth?.value,
+            length: length_in_metres(&length.to_string_lossy())?.value,
+        }))
     }
 
     /// Exactly as many names.
@@ -276,6 +304,13 @@ fn parts_of(word: &OsStr) -> (Cow<'_, str>, Option<&OsStr>) {
 fn form(name: &OsStr) -> Result<Form, String> {
     let name = name.to_string_lossy();
     Form::named(&name).ok_or(format!("--as takes metres, km, estaca or csv, not {name}"))
+}
+
+/// The one form of a table that is asked for.
+fn csv(name: &OsStr) -> Result<Form, String> {
+    let name = name.to_string_lossy();
+    let csv = Form::named(&name).filter(|form| *form == Form::Csv);
+    csv.ok_or(format!("--as takes csv, not {name}"))
 }
 
 fn every(word: &OsStr) -> Result<Every, String> {

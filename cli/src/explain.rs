@@ -2,6 +2,7 @@
 //! formula behind it.
 
 use crate::bits::fields_of;
+use crate::commands::table::Spiral;
 use crate::edition::{self, USUAL, WIDEST};
 use crate::field::Field;
 use crate::limits;
@@ -63,6 +64,16 @@ pub fn of_points(survey: &Survey, edition: u32, refusal: Refusal) -> String {
         Reason::NoTurn => NO_TURN.into(),
         Reason::WideTurn => wide_turn(survey.sketch().curve(place)),
         _ => return of_line(&survey.sketch(), edition, refusal),
+    };
+    headed(refusal, found)
+}
+
+/// Why a spiral is refused that is looked up in the unit spiral table, in one sentence.
+pub fn of_spiral(spiral: Spiral, refusal: Refusal) -> String {
+    let found = match refusal.reason {
+        Reason::Thousandth => wide_angle(spiral.thousandth),
+        Reason::Spiral => beyond_table(spiral.length),
+        other => other.words().to_string(),
     };
     headed(refusal, found)
 }
@@ -181,6 +192,19 @@ fn long_spiral(Curve { radius, spiral, .. }: Curve) -> String {
     let most = limits::greatest_spiral(radius);
     let [spiral, radius, most] = [spiral, radius, most].map(metres_of_mm);
     format!("the spiral is {spiral}; at a radius of {radius} it may be 0.000 m to {most}")
+}
+
+fn wide_angle(thousandth: u64) -> String {
+    let most = limits::last_row();
+    format!(
+        "the spiral angle is {thousandth} thousandths of a radian; it may be 0 to {most}, \
+         by L / 2R of a spiral that is no longer than the radius"
+    )
+}
+
+fn beyond_table(length: u64) -> String {
+    let [length, most] = [length, limits::longest_looked_up()].map(metres_of_mm);
+    format!("the spiral is {length}; it may be 0.000 m to {most}")
 }
 
 fn least_radius(line: &Line, Curve { radius, .. }: Curve) -> String {

@@ -13,6 +13,7 @@ usage: pokyandi stations [--as metres|km|estaca|csv] [SHEET..]
        pokyandi convert --to 1|2 SHEET..
        pokyandi make [--edition 1|2] TEXT SHEET
        pokyandi show SHEET
+       pokyandi table [--as csv] [THOUSANDTH LENGTH]
        pokyandi SUBCOMMAND --help
        pokyandi --help | --version
 "
@@ -26,7 +27,8 @@ pub const USAGE: &str = usage!();
 pub const ALL: &str = concat!(
     usage!(),
     "
-Stations of road alignments from packed sheets, and heights of profiles.
+Stations of road alignments from packed sheets, heights of profiles, and the table of
+the unit spiral.
 
 stations   the stations of TS, SC, CS and ST of every curve, and of the end
 pegs       a list for the crew: the element under every 20 m and every point
@@ -36,10 +38,11 @@ check      a line for each sheet: fine, or why it is refused, with the limit mis
 convert    sheets in the other edition, many in one run; edition 2 goes past 200 km
 make       the sheet of a plain text, with distances and deflections or with points
 show       the text of a sheet
+table      the unit spiral table for the field, or X and Y of one spiral from it
 
 The name - stands for standard input; as the SHEET of make, for standard output.
 Where several sheets or texts are taken, --list FILE takes those that FILE names.
-Exit status: 0 done; 1 a sheet or text is refused or faulty; 2 wrong usage, or
+Exit status: 0 done; 1 a sheet, text or spiral is refused or faulty; 2 wrong usage, or
 reading or writing failed. Results go to standard output, words to standard error.
 
 From a plain text to stations:
@@ -339,4 +342,40 @@ Prints the text of a sheet, which pokyandi make takes back to the same bytes.
     distance 500.000m
     curve right 49d22m44s 350.000m 40.000m  # 1
     distance 400.000m
+";
+
+pub const TABLE: &str = "\
+usage: pokyandi table [--as csv]
+       pokyandi table [--as csv] THOUSANDTH LENGTH
+
+Prints the unit spiral table, x and y at the end of a spiral of length one, in 501
+rows: the spiral angle s = L / 2R in thousandths of a radian, 0 to 500, and in radians;
+x along the tangent and y square to it, both for each metre of spiral. A spiral of
+length L has X = L x and Y = L y, in the unit of L.
+
+With a thousandth and a length it prints X and Y of that spiral, in metres. They are
+those of pokyandi elements for the same length and angle.
+
+  THOUSANDTH   the angle, a whole number, 0 to 500; 500 has a spiral as long as R
+  LENGTH       of the spiral, up to 500 m; without a unit it is in metres, other forms
+               are 80000mm, 0+080km and 4+0e
+  --as csv     thousandth,angle(rad),x,y as a heading, or with a spiral
+               thousandth,angle(rad),length(m),X(m),Y(m), and a line for each row
+
+A spiral that is refused gets REFUSED, number and place instead, and words on standard
+error: 25 for the angle, 11 for the length.
+
+A spiral of 80 m at R = 160 m: s = 80 / 320 = 0.250. Row 250 has x = 0.993768058 and
+y = 0.082962049, so X = 80 x = 79.501 m and Y = 80 y = 6.637 m.
+
+    $ pokyandi table | sed -n '1p; 251,253p'
+    THOUSANDTH ANGLE(rad)           x           y
+           249      0.249 0.993817671 0.082633148
+           250      0.250 0.993768058 0.082962049
+           251      0.251 0.993718249 0.083290915
+    $ pokyandi table 250 80m
+    THOUSANDTH ANGLE(rad)   LENGTH(m)        X(m)        Y(m)
+           250      0.250      80.000   79.501445    6.636964
+    $ pokyandi table --as csv | tail -n 1
+    500,0.500,0.975287682,0.163714150
 ";

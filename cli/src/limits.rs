@@ -1,6 +1,7 @@
 //! Limits, asked of the library itself: the least or greatest number that it
 //! does not refuse. No range, table or formula is written down here.
 
+use crate::commands::table::Spiral;
 use crate::edition::{USUAL, WIDEST};
 use crate::line::{example, Curve, Line};
 use crate::profile::{self, Profile, Vertex};
@@ -245,6 +246,26 @@ pub fn widest_turn() -> u64 {
     widest.expect("a line may turn").curve(1).deflection
 }
 
+/// The last row of the unit spiral table, thousandths.
+pub fn last_row() -> u64 {
+    let row = |thousandth| Spiral {
+        thousandth,
+        length: 0,
+    };
+    let serves = |thousandth| !is_refused(row(thousandth).look_up(), Reason::Thousandth);
+    greatest(0..=MOST, serves).expect("the table has a row")
+}
+
+/// The longest spiral that is looked up in the table, mm.
+pub fn longest_looked_up() -> u64 {
+    let spiral = |length| Spiral {
+        thousandth: 0,
+        length,
+    };
+    let serves = |length| !is_refused(spiral(length).look_up(), Reason::Spiral);
+    greatest(0..=MOST, serves).expect("a spiral may be empty")
+}
+
 /// Where the length of curve i stands in a profile.
 fn index_of_length(i: usize) -> usize {
     pokyandi::profile::vertex(i) + pokyandi::vertex::LENGTH
@@ -390,6 +411,11 @@ mod tests {
     fn the_ranges_of_points() {
         assert_eq!(greatest_coordinate(), 10_000_000);
         assert_eq!(widest_turn(), 216_000);
+    }
+
+    #[test]
+    fn the_ranges_of_the_unit_spiral_table() {
+        assert_eq!([last_row(), longest_looked_up()], [500, 500_000]);
     }
 
     #[test]

@@ -1,7 +1,8 @@
 //! The command `pokyandi`, for people: it reads arguments, sheets and plain
-//! text, and prints. Stations, pegs, elements, heights and the lines of points are
-//! numbers that a call of the proved library answered; a straight is the difference
-//! of two stations, and the points of vertical curves lie half a length from a vertex.
+//! text, and prints. Stations, pegs, elements, heights, the lines of points and the
+//! unit spiral table are numbers that a call of the proved library answered; a straight
+//! is the difference of two stations, and the points of vertical curves lie half a
+//! length from a vertex.
 
 mod arguments;
 mod bits;
@@ -23,7 +24,7 @@ mod survey;
 mod text;
 
 use arguments::Request;
-use commands::{check, convert, elements, make, pegs, show, stations};
+use commands::{check, convert, elements, make, pegs, show, stations, table};
 use console::{Console, Status};
 use std::env;
 use std::io;
@@ -69,6 +70,7 @@ fn answer(request: Request, console: &mut Console) -> io::Result<Status> {
             sheet,
         } => make::run(edition, &text, &sheet, console),
         Request::Show { sheet } => show::run(&sheet, console),
+        Request::Table { as_csv, spiral } => table::run(as_csv, spiral, console),
     }
 }
 

@@ -46,5 +46,9 @@ int main(void) {
     faults += wrong("height of no profile", pokyandi_height(NULL, 0, 0, NULL, 0), POKYANDI_CURVE_COUNT);
     faults += wrong("height outside the profile", pokyandi_height(PROFILE, PROFILE_NUMBERS, 200000001, NULL, 0), POKYANDI_STATION);
     faults += wrong("height into nothing", pokyandi_height(PROFILE, PROFILE_NUMBERS, 0, NULL, 0), POKYANDI_SMALL_BUFFER);
+    faults += wrong("look-up into nothing", pokyandi_unit_spiral(500, 500000, NULL, 0), POKYANDI_SMALL_BUFFER);
+    faults += wrong("look-up behind the last row", pokyandi_unit_spiral(501, 500001, NULL, 0), POKYANDI_THOUSANDTH);
+    faults += wrong("look-up of a long spiral", pokyandi_unit_spiral(500, 500001, NULL, 0), POKYANDI_SPIRAL);
+    faults += wrong("table into nothing", pokyandi_unit_spiral_table(NULL, 0), POKYANDI_SMALL_BUFFER);
     return faults != 0;
 }

@@ -1,4 +1,4 @@
-/* Prints every name of the header that the Rust crate has too, with its number, and the words of refusals 0 to 25.
+/* Prints every name of the header that the Rust crate has too, with its number, and the words of refusals 0 to 26.
  * bindings/rust/examples/names.rs prints the same from the crate. */
 #include "pokyandi.h"
 
@@ -22,6 +22,8 @@ static void show_sizes(void) {
     SHOW(ELEMENT_NUMBERS);
     SHOW(PROFILE_NUMBERS);
     SHOW(HEIGHT_NUMBERS);
+    SHOW(OFFSET_NUMBERS);
+    SHOW(TABLE_NUMBERS);
 }
 
 static void show_indexes(void) {
@@ -92,7 +94,8 @@ static void show_refusals(void) {
     SHOW(GRADE);
     SHOW(SIGHT);
     SHOW(FAR_START);
-    for (uint32_t number = 0; number <= 25; number++) {
+    SHOW(THOUSANDTH);
+    for (uint32_t number = 0; number <= 26; number++) {
         printf("%" PRIu32 ": %s\n", number, pokyandi_words(number));
     }
 }

@@ -1,9 +1,9 @@
 /* Measures how much stack a call takes: it is made on a stack filled with a pattern, with the sheet of each file, with a line of 64
- * curves or its points, or with a profile of 32 vertices, into no room and into enough. No call is made before, so that what the dynamic linker takes when memcpy is first
- * used counts too.
+ * curves or its points, with a profile of 32 vertices, or with a row of the unit spiral table, into no room and into enough. No call is
+ * made before, so that what the dynamic linker takes when memcpy is first used counts too.
  *
  *     stack CALL FILE..     CALL is stations, check, text, peg, elements, edition, read, write, rewrite,
- *                           convert, from_points, height or version
+ *                           convert, from_points, height, unit_spiral, unit_spiral_table or version
  *
  * Prints the most bytes. Exit status: 0 they are at most POKYANDI_STACK_BYTES, 1 they are more, 2 a call or file is none.
  */
@@ -39,11 +39,17 @@ static uint64_t row[POKYANDI_ROW_NUMBERS];
 static int64_t peg[POKYANDI_PEG_NUMBERS];
 static int64_t profile[POKYANDI_PROFILE_NUMBERS];
 static int64_t height[POKYANDI_HEIGHT_NUMBERS];
+static uint64_t ratios[POKYANDI_TABLE_NUMBERS];
 static uint8_t bytes[POKYANDI_TEXT_BYTES];
 
-enum { STATIONS, CHECK, TEXT, PEG, ELEMENTS, EDITION, READ, WRITE, REWRITE, CONVERT, FROM_POINTS, HEIGHT, VERSION, CALLS };
-static const char *const NAMES[CALLS] = {"stations", "check",   "text",    "peg",         "elements", "edition", "read",
-                                         "write",    "rewrite", "convert", "from_points", "height",   "version"};
+enum {
+    STATIONS, CHECK, TEXT, PEG, ELEMENTS, EDITION, READ, WRITE, REWRITE, CONVERT, FROM_POINTS, HEIGHT, UNIT_SPIRAL, UNIT_SPIRAL_TABLE,
+    VERSION, CALLS
+};
+static const char *const NAMES[CALLS] = {
+    "stations", "check", "text", "peg", "elements", "edition", "read", "write", "rewrite", "convert", "from_points", "height",
+    "unit_spiral", "unit_spiral_table", "version",
+};
 
 /* The edition that the sheet does not have; it is the first four bits. */
 static uint32_t other_edition(void) { return sheet_bytes > 0 && sheet[0] >> 4 == 2 ? 1 : 2; }
@@ -64,6 +70,8 @@ static uint64_t make_call(void) {
         return pokyandi_from_points(40, 8, 0, points, POKYANDI_POINT_NUMBERS, curves, POKYANDI_CURVE_NUMBERS, line,
                                     roomy ? POKYANDI_LINE_NUMBERS : 0);
     case HEIGHT: return pokyandi_height(profile, POKYANDI_PROFILE_NUMBERS, LAST_STATION, height, roomy ? POKYANDI_HEIGHT_NUMBERS : 0);
+    case UNIT_SPIRAL: return pokyandi_unit_spiral(500, 500000, ratios, roomy ? POKYANDI_OFFSET_NUMBERS : 0);
+    case UNIT_SPIRAL_TABLE: return pokyandi_unit_spiral_table(ratios, roomy ? POKYANDI_TABLE_NUMBERS : 0);
     default: return pokyandi_version();
     }
 }

@@ -1,5 +1,5 @@
 //! Prints every name of the crate that the C header has too, with its number,
-//! and the words of refusals 0 to 25. `examples/c/names.c` prints the same from
+//! and the words of refusals 0 to 26. `examples/c/names.c` prints the same from
 //! the header.
 
 use pokyandi::{curve, element, line, peg, profile, vertex, Reason};
@@ -29,6 +29,8 @@ fn show_sizes() {
         ("ELEMENT_NUMBERS", pokyandi::ELEMENT_NUMBERS),
         ("PROFILE_NUMBERS", pokyandi::PROFILE_NUMBERS),
         ("HEIGHT_NUMBERS", pokyandi::HEIGHT_NUMBERS),
+        ("OFFSET_NUMBERS", pokyandi::OFFSET_NUMBERS),
+        ("TABLE_NUMBERS", pokyandi::TABLE_NUMBERS),
     ];
     show_all(&sizes);
 }
@@ -94,7 +96,7 @@ fn show_refusals() {
     for reason in Reason::ALL {
         show(&in_capitals(&format!("{reason:?}")), reason.number().into());
     }
-    for number in 0..=25 {
+    for number in 0..=26 {
         let words = Reason::of(number).map_or("not refused", Reason::words);
         println!("{number}: {words}");
     }

@@ -2,8 +2,8 @@
 
 use crate::refusal::{answered, counted, Refusal};
 
-/// The version of this crate, 0.8.0: major × 1,000,000 + minor × 1,000 + patch.
-pub const VERSION: u64 = 8_000;
+/// The version of this crate, 0.9.0: major × 1,000,000 + minor × 1,000 + patch.
+pub const VERSION: u64 = 9_000;
 
 /// Bytes of stack that are enough for every call, with what the dynamic linker
 /// takes when a call first uses memcpy.

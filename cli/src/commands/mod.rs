@@ -10,3 +10,4 @@ pub mod sheets;
 pub mod show;
 pub mod stations;
 pub mod stops;
+pub mod table;

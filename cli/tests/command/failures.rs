@@ -23,6 +23,9 @@ fn a_full_disk() {
         "pokyandi elements stations/case-01.sheet >/dev/full",
         "pokyandi check stations/case-01.sheet >/dev/full",
         "pokyandi show stations/case-01.sheet >/dev/full",
+        "pokyandi table >/dev/full",
+        "pokyandi table --as csv 250 80m >/dev/full",
+        "pokyandi table 501 80m >/dev/full",
         "pokyandi convert --to 2 - <stations/case-01.sheet >/dev/full",
         "pokyandi make line.txt - >/dev/full",
         "pokyandi make line.txt /dev/full",
@@ -47,6 +50,7 @@ fn a_closed_output_or_input() {
         "pokyandi check stations/case-01.sheet >&-",
         "standard output: Bad file descriptor",
     );
+    check_failure("pokyandi table >&-", "standard output: Bad file descriptor");
     check_failure(
         "pokyandi stations <&-",
         "standard input: Bad file descriptor",

@@ -2,8 +2,8 @@
 
 use crate::run::{run, run_in_shell, top};
 
-const SUBCOMMANDS: [&str; 8] = [
-    "stations", "pegs", "profile", "elements", "check", "convert", "make", "show",
+const SUBCOMMANDS: [&str; 9] = [
+    "stations", "pegs", "profile", "elements", "check", "convert", "make", "show", "table",
 ];
 
 /// The commands of a help text's examples, each with what it prints.
@@ -54,7 +54,7 @@ fn the_help_lists_the_subcommands() {
 
 #[test]
 fn wrong_usage_has_status_2_and_no_results() {
-    let lines: [&[&str]; 42] = [
+    let lines: [&[&str]; 52] = [
         &[],
         &["station"],
         &["--verbose"],
@@ -97,6 +97,16 @@ fn wrong_usage_has_status_2_and_no_results() {
         &["make", "a.txt"],
         &["make", "a.txt", "b.sheet", "c.sheet"],
         &["show", "a.sheet", "b.sheet"],
+        &["table", "--as"],
+        &["table", "--as", "km"],
+        &["table", "--as", "csv", "--as", "csv"],
+        &["table", "--every", "20m"],
+        &["table", "--list", "a"],
+        &["table", "250"],
+        &["table", "250", "80m", "90m"],
+        &["table", "0.25", "80m"],
+        &["table", "-1", "80m"],
+        &["table", "250", "80.0005m"],
     ];
     for line in lines {
         let run = run(line);

@@ -13,3 +13,4 @@ mod profile;
 mod random_lines;
 mod run;
 mod several;
+mod table;
