@@ -30,7 +30,7 @@ use Rattle.conversion.proofs.Accepted.{reads}
 use Rattle.conversion.proofs.Refusals.{convert-numbers}
 use Rattle.packed_sheet.proofs.WaysOut.{frame-passes, accepted-line, sheet-length}
 use Rattle.elements.specs.Answer.{arcCheck, elementChecks}
-use Rattle.spiral_table.specs.UnitSpiralTable.{unitSpiralTable}
+use Rattle.spiral_table.specs.UnitSpiralTable.{unitSpiralTable, tableIn}
 use Rattle.spiral_table.specs.LookUp.{lookUpChecks}
 use Rattle.spiral_table.proofs.EachEntry.{table-length}
 use Rattle.stationing.specs.Answer.{alignmentChecks}
@@ -47,7 +47,7 @@ use Rattle.profile_numbers.specs.Numbers.{profileOf, heightNumbers, countCheck 
 use Rattle.station_report.specs.Report.{sheetChecks, sheetText}
 use Rattle.station_report.proofs.Fits.{sheet-numbers, fits}
 use Rattle.pokyandi.specs.Answers.{answerNumber}
-use Rattle.pokyandi.specs.Calls.{sheetStations, sheetPegChecks, sheetPeg, checkReply, sheetNumbers, toldChecks, numbersSheet, editionReply, pointNumbers, elementValues, elementNumbers, endNumbers}
+use Rattle.pokyandi.specs.Calls.{sheetStations, sheetPegChecks, sheetPeg, checkReply, sheetNumbers, toldChecks, numbersSheet, editionReply, pointNumbers, elementValues, elementNumbers, endNumbers, unitSpiralIn}
 
 -- The upper and the lower half of an answer tell the reply; the numbers of a call's refusals go up to a greatest one.
 abbrev pub Told : (greatest : ℕ) → FillReply → Type 0
@@ -173,10 +173,11 @@ elements-told A R L lent =
     (wider (curveChecks A R L 0) (curve-numbers 0 A R L 0 (omega arith)) (omega arith) (omega arith) (omega arith), λ _. (omega arith, omega arith, omega arith))
     (λ e. omega arith)
 
-pub unit-spiral-told : (r L : ℕ) (lent : List ℕ) → Told 25 (fill (lookUpChecks r L) (endNumbers r L) lent .reply)
-unfolding lookUpChecks endNumbers
+pub unit-spiral-told : (r L : ℕ) (lent : List ℕ) → Told 25 (unitSpiralIn r L lent .reply)
+unfolding lookUpChecks endNumbers unitSpiralIn
 unit-spiral-told r L lent =
     reply-told 25 (omega arith) (lookUpChecks r L) (endNumbers r L) lent ((omega arith, omega arith, omega arith), λ _. (omega arith, omega arith, omega arith)) (λ e. omega arith)
 
-pub unit-spiral-table-told : (lent : List ℕ) → Told 16 (fill unchecked unitSpiralTable lent .reply)
+pub unit-spiral-table-told : (lent : List ℕ) → Told 16 (tableIn lent .reply)
+unfolding tableIn
 unit-spiral-table-told lent = reply-told 16 (omega arith) unchecked unitSpiralTable lent tt (λ e. omega (arith, table-length))

@@ -17,7 +17,6 @@ use Rattle.packed_sheet.proofs.Examples as sheets
 use Rattle.elements.specs.declared.Elements.{Elements}
 use Rattle.elements.proofs.Replies.{found-elements}
 use Rattle.elements.proofs.Examples as curves
-use Rattle.spiral_table.specs.LookUp.{lookUpChecks}
 use Rattle.spiral_table.proofs.Examples as spirals
 use Rattle.stationing.specs.Answer.{stationsIn}
 use Rattle.stationing.proofs.Examples.{noCurveFrom}
@@ -29,7 +28,7 @@ use Rattle.station_report.specs.Report.{sheetChecks}
 use Rattle.station_report.proofs.Examples.{sheet4}
 use Rattle.station_report.proofs.Examples as refusedSheets
 use Rattle.pokyandi.specs.Answers.{answerNumber}
-use Rattle.pokyandi.specs.Calls.{sheetStations, sheetPegChecks, sheetPeg, checkReply, sheetNumbers, toldChecks, numbersSheet, editionReply, elementNumbers, endNumbers, version}
+use Rattle.pokyandi.specs.Calls.{sheetStations, sheetPegChecks, sheetPeg, checkReply, sheetNumbers, toldChecks, numbersSheet, editionReply, elementNumbers, unitSpiralIn, version}
 use Rattle.pokyandi.proofs.Replies.{stations-reply, refused-peg, peg-reply, edition-reply, refused-edition, found-numbers, found-end, refused-end}
 
 -- Case 10's sheet without its last byte.
@@ -56,9 +55,11 @@ pub record Examples : Type 0 where
       ≡ pos 0 ∷ pos 0 ∷ pos 250000000 ∷ pos 0 ∷ pos 0 ∷ pos 7 ∷ []
   pub case-10-cut-peg : fill (sheetPegChecks cut 0) (sheetPeg cut 0) [] .reply ≡ unfilled 1 0
   -- ---- the unit spiral
-  pub spiral : fill (lookUpChecks 500 48000) (endNumbers 500 48000) (7 ∷ 7 ∷ 7 ∷ []) .reply ≡ filled 2
-  pub spiral-numbers : fill (lookUpChecks 500 48000) (endNumbers 500 48000) (7 ∷ 7 ∷ 7 ∷ []) .buffer ≡ 46813809 ∷ 7858279 ∷ 7 ∷ []
-  pub no-such-row : fill (lookUpChecks 501 500001) (endNumbers 501 500001) [] .reply ≡ unfilled 25 0
+  pub spiral : unitSpiralIn 500 48000 (7 ∷ 7 ∷ 7 ∷ []) .reply ≡ filled 2
+  pub spiral-numbers : unitSpiralIn 500 48000 (7 ∷ 7 ∷ 7 ∷ []) .buffer ≡ 46813809 ∷ 7858279 ∷ 7 ∷ []
+  pub no-such-row : unitSpiralIn 501 500001 [] .reply ≡ unfilled 25 0
+  pub too-long : unitSpiralIn 500 500001 [] .reply ≡ unfilled 11 0
+  pub no-room : unitSpiralIn 500 48000 (7 ∷ []) .reply ≡ unfilled 16 0
   -- ---- the same line from the greatest start, in edition 2
   pub far-edition : editionReply farSheet ≡ filled 2
   pub far-numbers : sheetNumbers farSheet ≡ 0 ∷ 70 ∷ 8 ∷ 4000000000 ∷ 500000 ∷ []
@@ -109,10 +110,15 @@ farStations =
     stations1 farSheet 4000000000 4000500000000 (sheets.examples .second-greatest-read) (sheets.examples .second-greatest) (lines.examples .greatest-start) (lines.examples .greatest-start-row)
 
 -- The look-up of a ramp's spiral, into three numbers of which one is left.
-spiral500 : (filled 2 ≡ fill (lookUpChecks 500 48000) (endNumbers 500 48000) (7 ∷ 7 ∷ 7 ∷ []) .reply)
-    × (46813809 ∷ 7858279 ∷ 7 ∷ [] ≡ fill (lookUpChecks 500 48000) (endNumbers 500 48000) (7 ∷ 7 ∷ 7 ∷ []) .buffer)
+spiral500 : (filled 2 ≡ unitSpiralIn 500 48000 (7 ∷ 7 ∷ 7 ∷ []) .reply)
+    × (46813809 ∷ 7858279 ∷ 7 ∷ [] ≡ unitSpiralIn 500 48000 (7 ∷ 7 ∷ 7 ∷ []) .buffer)
 unfolding fill withRoom
 spiral500 = found-end 500 48000 (record { x = 46813809; y = 7858279 }) (7 ∷ 7 ∷ 7 ∷ []) (sym (spirals.examples .ramp)) (refl, refl)
+
+-- One number is no room for it.
+small-end : (unfilled 16 0 ≡ unitSpiralIn 500 48000 (7 ∷ []) .reply) × (7 ∷ [] ≡ unitSpiralIn 500 48000 (7 ∷ []) .buffer)
+unfolding fill withRoom
+small-end = found-end 500 48000 (record { x = 46813809; y = 7858279 }) (7 ∷ []) (sym (spirals.examples .ramp)) (refl, refl)
 
 pub examples : Examples
 unfolding numbered editionCheck countCheck numbersChecks toldChecks withRoom fill answerNumber checkReply sheetNumbers numbersSheet numbersTo lineNumbers lineOf entries
@@ -137,6 +143,8 @@ examples =
       spiral = sym (spiral500 .0);
       spiral-numbers = sym (spiral500 .1);
       no-such-row = sym (refused-end 501 500001 [] (sym (spirals.examples .row-first)) .0);
+      too-long = sym (refused-end 500 500001 [] (sym (spirals.examples .too-long)) .0);
+      no-room = sym (small-end .0);
       far-edition = sym (edition-reply farSheet (sheets.examples .second-greatest-read) (sym (sheets.examples .second-greatest-edition)));
       far-numbers = ap lineNumbers (sheets.examples .second-greatest);
       far-stations = sym (farStations .1);

@@ -41,7 +41,7 @@ use Rattle.coordinates.proofs.Accepted.{line-accepted}
 use Rattle.pegs.specs.Pegs.{pegChecks}
 use Rattle.pegs.specs.Numbers.{stationNumbers}
 use Rattle.station_report.specs.Report.{sheetChecks}
-use Rattle.pokyandi.specs.Calls.{sheetStations, sheetPegChecks, sheetPeg, checkReply, sheetNumbers, toldChecks, numbersSheet, editionReply, pointNumbers, elementValues, elementNumbers, numbersOf, offsetNumbers, endNumbers, pointNumbersOf}
+use Rattle.pokyandi.specs.Calls.{sheetStations, sheetPegChecks, sheetPeg, checkReply, sheetNumbers, toldChecks, numbersSheet, editionReply, pointNumbers, elementValues, elementNumbers, numbersOf, offsetNumbers, endNumbers, endNumbersOf, unitSpiralIn}
 
 -- The numbers of a line that passes a call's checks.
 line-reply : (checks : Checks) (whole : Line) → outcome checks ≡ passed → whole .count ≤ 64 → {line : Line} → line ≡ whole
@@ -196,18 +196,16 @@ found-reply A R L e buffer f told =
 module _ (r L : ℕ) where
   -- The offsets that were looked up are the rule's,
   pub found-end : (p : SpiralPoint) (buffer : List ℕ) {reply : FillReply} {after : List ℕ} → pointReplyOf (Found p) ≡ lookUpReply r L
-      → (reply ≡ fill unchecked (pointNumbersOf p) buffer .reply) × (after ≡ fill unchecked (pointNumbersOf p) buffer .buffer)
-      → (reply ≡ fill (lookUpChecks r L) (endNumbers r L) buffer .reply)
-      × (after ≡ fill (lookUpChecks r L) (endNumbers r L) buffer .buffer)
-  unfolding lookUpReply endNumbers
+      → (reply ≡ fill unchecked (endNumbersOf p) buffer .reply) × (after ≡ fill unchecked (endNumbersOf p) buffer .buffer)
+      → (reply ≡ unitSpiralIn r L buffer .reply) × (after ≡ unitSpiralIn r L buffer .buffer)
+  unfolding lookUpReply endNumbers unitSpiralIn
   found-end p buffer looked told =
       let given = replied (lookUpChecks r L) (endBy r L) looked in
-      refill unchecked (lookUpChecks r L) (pointNumbersOf p) (endNumbers r L) buffer (sym (given .0))
+      refill unchecked (lookUpChecks r L) (endNumbersOf p) (endNumbers r L) buffer (sym (given .0))
       (ap (λ (o : Offsets). map natAbs (offsetNumbers o)) (given .1)) told
 
   -- and so is a refusal.
   pub refused-end : (buffer : List ℕ) {n p : ℕ} → declined n p ≡ lookUpReply r L
-      → (unfilled n p ≡ fill (lookUpChecks r L) (endNumbers r L) buffer .reply)
-      × (buffer ≡ fill (lookUpChecks r L) (endNumbers r L) buffer .buffer)
-  unfolding lookUpReply
+      → (unfilled n p ≡ unitSpiralIn r L buffer .reply) × (buffer ≡ unitSpiralIn r L buffer .buffer)
+  unfolding lookUpReply unitSpiralIn
   refused-end buffer told = refused-fill (lookUpChecks r L) (endNumbers r L) buffer (unreplied (lookUpChecks r L) (endBy r L) told)

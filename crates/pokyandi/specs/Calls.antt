@@ -4,7 +4,7 @@ use Prim.Native.Nat.{ℕ, _+_, _*_}
 use lib.IntN.{ℤ, natAbs}
 use lib.ListN.{length}
 use Rattle.refusals.specs.Order.{Checks, _⨾_, outcome}
-use Rattle.refusals.specs.Filling.{FillReply, countAfter}
+use Rattle.refusals.specs.Filling.{FillReply, countAfter, Fill, fill}
 use Rattle.line_numbers.specs.Numbers.{lineNumbers, lineOf, numbersChecks}
 use Rattle.packed_sheet.specs.Layout.{numbered, editionCheck}
 use Rattle.packed_sheet.specs.Reading.{readChecks, readLine, readEdition}
@@ -13,7 +13,7 @@ use Rattle.elements.specs.declared.Elements.{Elements}
 use Rattle.elements.specs.declared.SpiralPoint.{SpiralPoint}
 use Rattle.elements.specs.Answer.{Values, valuesBy}
 use Rattle.elements.specs.SpiralPoint.{Offsets}
-use Rattle.spiral_table.specs.LookUp.{endBy}
+use Rattle.spiral_table.specs.LookUp.{endBy, lookUpChecks}
 use Rattle.stationing.specs.Stations.{stationRow}
 use Rattle.coordinates.specs.FromPoints.{lineFrom}
 use Rattle.pegs.specs.Pegs.{pegChecks}
@@ -69,16 +69,21 @@ elementNumbers A R L = map natAbs (elementValues A R L)
 abbrev pub numbersOf : Elements → List ℕ
 numbersOf e = e .x ∷ e .y ∷ e .centre ∷ e .shift ∷ e .arc ∷ e .tangent ∷ []
 
--- "gives X and Y": the end of a spiral by the table, none below zero where the call answers (`proofs/Elements.antt`)
+-- "gives X and Y"
 abbrev pub offsetNumbers : Offsets → List ℤ
 offsetNumbers o = o .x ∷ o .y ∷ []
 
+-- As they are written; where the call answers, none is below zero (`proofs/Elements.antt`).
 unfoldable pub endNumbers : (r L : ℕ) → List ℕ
 endNumbers r L = map natAbs (offsetNumbers (endBy r L))
 
--- The same of a point that was answered.
-abbrev pub pointNumbersOf : SpiralPoint → List ℕ
-pointNumbersOf p = p .x ∷ p .y ∷ []
+-- The same of an end that was answered.
+abbrev pub endNumbersOf : SpiralPoint → List ℕ
+endNumbersOf p = p .x ∷ p .y ∷ []
+
+-- What the look-up does to the numbers that it is lent: 25, 11, then 16; X and Y.
+unfoldable pub unitSpiralIn : (r L : ℕ) → List ℕ → Fill ℕ
+unitSpiralIn r L lent = fill (lookUpChecks r L) (endNumbers r L) lent
 
 -- The version of the library, 0.9.0: major, minor and patch in thousands.
 abbrev pub version : ℕ

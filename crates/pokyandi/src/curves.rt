@@ -3,8 +3,7 @@ ghost use mathlib.Core.Path.{_≡_};
 ghost use Rattle.refusals.specs.Order.{unchecked};
 ghost use Rattle.refusals.specs.Filling.{fillReplyOf, fill};
 ghost use Rattle.elements.specs.Answer.{elementChecks};
-ghost use Rattle.spiral_table.specs.LookUp.{lookUpChecks};
-ghost use Rattle.pokyandi.specs.Calls.{elementNumbers, numbersOf, endNumbers, pointNumbersOf};
+ghost use Rattle.pokyandi.specs.Calls.{elementNumbers, numbersOf, endNumbersOf, unitSpiralIn};
 use elements::ElementAnswer;
 use elements::Elements;
 use elements::PointAnswer;
@@ -48,8 +47,8 @@ pub(crate) fn curve_numbers(
 
 // X and Y at the front of `offsets`, or refusal 16.
 fn store_end(end: SpiralPoint, offsets: &mut [u64]) -> FillAnswer
-    ensures { λ a. ⌜ fillReplyOf a ≡ fill unchecked (pointNumbersOf end) (now (offsets .entry)) .reply ⌝ }
-    ensures { λ _. ⌜ now (offsets .exit) ≡ fill unchecked (pointNumbersOf end) (now (offsets .entry)) .buffer ⌝ }
+    ensures { λ a. ⌜ fillReplyOf a ≡ fill unchecked (endNumbersOf end) (now (offsets .entry)) .reply ⌝ }
+    ensures { λ _. ⌜ now (offsets .exit) ≡ fill unchecked (endNumbersOf end) (now (offsets .entry)) .buffer ⌝ }
 {
     if offsets.len() < 2 {
         return FillAnswer::Refused(Refusal::SmallBuffer);
@@ -61,8 +60,8 @@ fn store_end(end: SpiralPoint, offsets: &mut [u64]) -> FillAnswer
 
 // The end of a spiral from the table at the front of `offsets`, or the first refusal.
 pub(crate) fn end_numbers(thousandth: u32, length: u32, offsets: &mut [u64]) -> FillAnswer
-    ensures { λ a. ⌜ fillReplyOf a ≡ fill (lookUpChecks thousandth length) (endNumbers thousandth length) (now (offsets .entry)) .reply ⌝ }
-    ensures { λ _. ⌜ now (offsets .exit) ≡ fill (lookUpChecks thousandth length) (endNumbers thousandth length) (now (offsets .entry)) .buffer ⌝ }
+    ensures { λ a. ⌜ fillReplyOf a ≡ unitSpiralIn thousandth length (now (offsets .entry)) .reply ⌝ }
+    ensures { λ _. ⌜ now (offsets .exit) ≡ unitSpiralIn thousandth length (now (offsets .entry)) .buffer ⌝ }
 {
     let answer = spiral_table::look_up(thousandth, length);
     match answer {

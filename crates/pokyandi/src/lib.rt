@@ -13,13 +13,12 @@ ghost use Rattle.refusals.specs.Filling.{fill};
 ghost use Rattle.packed_sheet.specs.Reading.{readChecks, readEdition};
 ghost use Rattle.conversion.specs.Conversion.{converted, conversion};
 ghost use Rattle.elements.specs.Answer.{elementChecks};
-ghost use Rattle.spiral_table.specs.UnitSpiralTable.{unitSpiralTable};
-ghost use Rattle.spiral_table.specs.LookUp.{lookUpChecks};
+ghost use Rattle.spiral_table.specs.UnitSpiralTable.{tableIn};
 ghost use Rattle.coordinates.specs.FromPoints.{fromPointsChecks};
 ghost use Rattle.profile_numbers.specs.Numbers.{heightNumbers, numbersChecks as profileNumbersChecks};
 ghost use Rattle.station_report.specs.Report.{sheetChecks, sheetText};
 ghost use Rattle.pokyandi.specs.Answers.{answerNumber};
-ghost use Rattle.pokyandi.specs.Calls.{sheetStations, sheetPegChecks, sheetPeg, checkReply, sheetNumbers, toldChecks, numbersSheet, editionReply, pointNumbers, elementNumbers, endNumbers, version};
+ghost use Rattle.pokyandi.specs.Calls.{sheetStations, sheetPegChecks, sheetPeg, checkReply, sheetNumbers, toldChecks, numbersSheet, editionReply, pointNumbers, elementNumbers, unitSpiralIn, version};
 use crate::answer::answer_number;
 use crate::curves::curve_numbers;
 use crate::curves::end_numbers;
@@ -149,8 +148,8 @@ pub extern "C" fn pokyandi_elements(
 // numbers at the front of `offsets`. Refusals 25 for a thousandth above 500, 11 for a length above 500,000, then 16, all with place 0.
 #[no_mangle]
 pub extern "C" fn pokyandi_unit_spiral(thousandth: u32, length: u32, offsets: &mut [u64]) -> u64
-    ensures answer { λ r. ⌜ r ≡ answerNumber (fill (lookUpChecks thousandth length) (endNumbers thousandth length) (now (offsets .entry)) .reply) ⌝ }
-    ensures memory { λ _. ⌜ now (offsets .exit) ≡ fill (lookUpChecks thousandth length) (endNumbers thousandth length) (now (offsets .entry)) .buffer ⌝ }
+    ensures answer { λ r. ⌜ r ≡ answerNumber (unitSpiralIn thousandth length (now (offsets .entry)) .reply) ⌝ }
+    ensures memory { λ _. ⌜ now (offsets .exit) ≡ unitSpiralIn thousandth length (now (offsets .entry)) .buffer ⌝ }
 {
     answer_number(end_numbers(thousandth, length, &mut *offsets))
 }
@@ -159,8 +158,8 @@ pub extern "C" fn pokyandi_unit_spiral(thousandth: u32, length: u32, offsets: &m
 // numbers. Refusal 16.
 #[no_mangle]
 pub extern "C" fn pokyandi_unit_spiral_table(ratios: &mut [u64]) -> u64
-    ensures answer { λ r. ⌜ r ≡ answerNumber (fill unchecked unitSpiralTable (now (ratios .entry)) .reply) ⌝ }
-    ensures memory { λ _. ⌜ now (ratios .exit) ≡ fill unchecked unitSpiralTable (now (ratios .entry)) .buffer ⌝ }
+    ensures answer { λ r. ⌜ r ≡ answerNumber (tableIn (now (ratios .entry)) .reply) ⌝ }
+    ensures memory { λ _. ⌜ now (ratios .exit) ≡ tableIn (now (ratios .entry)) .buffer ⌝ }
 {
     answer_number(spiral_table::table_numbers(&mut *ratios))
 }

@@ -46,7 +46,7 @@ stationList row = heading ++ linesOf (pointLine row) (length row)
 unfoldable pub refusalLine : (number place : ℕ) → List ℕ
 refusalLine number place = words (ascii "REFUSED") (decimal number) (decimal place)
 
--- Document 02, N8: "row number from 0, x, y, one space between": the line of row i of a table that has two numbers in a row
+-- Document 02, N8: "row number from 0, x, y, one space between": the line of row i of a table that has two numbers to a row
 unfoldable pub rowLine : List ℕ → ℕ → List ℕ
 rowLine table i = words (decimal i) (decimal (getD table (2 * i) 0)) (decimal (getD table (2 * i + 1) 0))
 

@@ -1,4 +1,4 @@
-// The text of a table that has two numbers in a row.
+// The text of a table that has two numbers to a row.
 ghost use mathlib.Core.Path.{_≡_};
 ghost use Prim.Native.Nat.{_+_, _*_, _≤_, _<_};
 ghost use lib.Dec.{leb};
@@ -67,7 +67,7 @@ fn put_rows(table: &[u64], text: &mut [u8]) -> usize
     at
 }
 
-// A table that has two numbers in a row, as document 02's program prints the unit spiral's, at the front of `text`: for each row a line
+// A table that has two numbers to a row, as document 02's program prints the unit spiral's, at the front of `text`: for each row a line
 // with its number, from 0, and its two numbers. Answers the length of the text, or refusal 16; a refusal leaves `text` as it was.
 pub fn table_text(table: &[u64], text: &mut [u8]) -> FillAnswer
     ensures answer { λ a. ⌜ fillReplyOf a ≡ fill unchecked (tableText (now (table .entry))) (now (text .entry)) .reply ⌝ }

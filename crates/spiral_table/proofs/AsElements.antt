@@ -1,9 +1,8 @@
 -- For a curve whose spiral angle is that of a row, the look-up gives X and Y of the element call. Assumes nothing.
-use mathlib.Core.Path.{_≡_, sym, _∙_, ap}
-use Prim.Native.Nat.{ℕ, _*_, _≤_}
+use mathlib.Core.Path.{_≡_, sym, _∙_}
+use Prim.Native.Nat.{ℕ, _≤_}
 use native.Mathlib.Omega.{arith}
-use lib.Dec.{leb}
-use lib.IntN.{ℤ, pos}
+use lib.IntN.{pos}
 use borrow.Author.Tests.{le-leb}
 use Rattle.refusals.specs.Outcomes.{passed, need, _▹_}
 use Rattle.refusals.specs.Order.{outcome}
@@ -18,7 +17,7 @@ use Rattle.elements.specs.declared.ElementAnswer.the-variants.{Found}
 use Rattle.elements.specs.declared.PointAnswer.{PointAnswer}
 use Rattle.elements.specs.WorkingRule.{unitX, unitY, scaledLength, spiralAngle, spiralX, spiralY}
 use Rattle.elements.specs.Answer.{replyOf, arcCheck, elementChecks, elementReply}
-use Rattle.elements.specs.SpiralPoint.{Offsets, pointReplyOf}
+use Rattle.elements.specs.SpiralPoint.{pointReplyOf}
 use Rattle.elements.proofs.Bounds.{spiral-angle-most}
 use Rattle.elements.proofs.Replies.{found-elements}
 use Rattle.spiral_table.specs.UnitSpiralTable.{rowAngle}

@@ -1,6 +1,6 @@
--- Every entry of the table is x or y of its row by the working rule: one computed test over the whole table, and what it says of each entry.
--- Assumes nothing.
-use mathlib.Core.Path.{_≡_, refl, sym, _∙_, ap}
+-- Every entry of the table, which the code's constant is (`entries`), is x or y of its row by the working rule: one computed test over the whole
+-- table, and what it says of each entry. Assumes nothing.
+use mathlib.Core.Path.{_≡_, refl, _∙_, ap}
 use mathlib.Core.Bool.{Bool, true, _&&_, cond}
 use Prim.Native.Nat.{ℕ, _+_, _*_, _/_, _%_, _≤_, _<_}
 use native.Mathlib.Omega.{arith}

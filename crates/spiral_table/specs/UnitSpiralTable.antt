@@ -2,6 +2,8 @@
 use mathlib.Core.List.{List, [], _∷_}
 use Prim.Native.Nat.{ℕ, zero, suc, _*_}
 use lib.IntN.{natAbs}
+use Rattle.refusals.specs.Order.{unchecked}
+use Rattle.refusals.specs.Filling.{Fill, fill}
 use Rattle.elements.specs.WorkingRule.{unitX, unitY}
 
 -- "spiral angle 0 to 500 thousandths of a radian": of row r
@@ -16,3 +18,7 @@ rowsFrom r (suc count) = natAbs (unitX (rowAngle r)) ∷ natAbs (unitY (rowAngle
 -- "501 rows": 1,002 numbers
 unfoldable pub unitSpiralTable : List ℕ
 unitSpiralTable = rowsFrom 0 501
+
+-- What the call that is lent numbers for the table does to them.
+unfoldable pub tableIn : List ℕ → Fill ℕ
+tableIn lent = fill unchecked unitSpiralTable lent

@@ -4,17 +4,19 @@ mod table;
 ghost use mathlib.Core.Path.{_≡_};
 ghost use Prim.Native.Nat.{_≤_};
 ghost use lib.IntN.{pos};
-ghost use Rattle.refusals.specs.Order.{unchecked};
-ghost use Rattle.refusals.specs.Filling.{fillReplyOf, fill};
+ghost use Rattle.refusals.specs.Filling.{fillReplyOf};
 ghost use Rattle.elements.specs.WorkingRule.{unitX, unitY};
 ghost use Rattle.elements.specs.SpiralPoint.{pointReplyOf};
-ghost use Rattle.spiral_table.specs.UnitSpiralTable.{rowAngle, unitSpiralTable};
+ghost use Rattle.spiral_table.specs.UnitSpiralTable.{rowAngle, unitSpiralTable, tableIn};
 ghost use Rattle.spiral_table.specs.LookUp.{lookUpReply};
 use crate::table::TABLE;
 use elements::PointAnswer;
 use elements::SpiralPoint;
 use refusals::FillAnswer;
 use refusals::Refusal;
+
+// How many numbers the table has.
+pub const TABLE_NUMBERS: usize = 1002;
 
 // A row of the table.
 struct Row {
@@ -23,7 +25,7 @@ struct Row {
 }
 
 // The whole table, which the rule gives.
-fn entries() -> [u32; 1002]
+fn entries() -> [u32; TABLE_NUMBERS]
     ensures { λ t. ⌜ t ≡ unitSpiralTable ⌝ }
 {
     TABLE
@@ -61,17 +63,17 @@ pub fn look_up(thousandth: u32, length: u32) -> PointAnswer
 // The table at the front of `ratios`, x and y of each row in turn: 1,002 numbers. Answers their count, or refusal 16, which leaves
 // `ratios` as it was.
 pub fn table_numbers(ratios: &mut [u64]) -> FillAnswer
-    ensures answer { λ a. ⌜ fillReplyOf a ≡ fill unchecked unitSpiralTable (now (ratios .entry)) .reply ⌝ }
-    ensures memory { λ _. ⌜ now (ratios .exit) ≡ fill unchecked unitSpiralTable (now (ratios .entry)) .buffer ⌝ }
+    ensures answer { λ a. ⌜ fillReplyOf a ≡ tableIn (now (ratios .entry)) .reply ⌝ }
+    ensures memory { λ _. ⌜ now (ratios .exit) ≡ tableIn (now (ratios .entry)) .buffer ⌝ }
 {
-    if ratios.len() < 1002 {
+    if ratios.len() < TABLE_NUMBERS {
         return FillAnswer::Refused(Refusal::SmallBuffer);
     }
     let table = entries();
     let mut k = 0;
-    while k < 1002 {
+    while k < TABLE_NUMBERS {
         ratios[k] = table[k] as u64;
         k += 1;
     }
-    FillAnswer::Count(1002)
+    FillAnswer::Count(TABLE_NUMBERS)
 }

@@ -1,5 +1,5 @@
 -- `look_up`: one case for each way out. Assumes nothing.
-use mathlib.Core.Path.{_≡_, _∙_, ap}
+use mathlib.Core.Path.{_∙_, ap}
 use native.Mathlib.Omega.{arith}
 use borrow.Author.Tests.{le-leb, lt-leb}
 use Rattle.refusals.proofs.Replied.{passed-reply, refused-reply}

@@ -1,7 +1,7 @@
 -- `table_numbers` copies the table. Assumes nothing.
 use mathlib.Core.Path.{_≡_, refl, sym, _∙_, ap}
 use mathlib.Core.List.{List, _++_}
-use Prim.Native.Nat.{ℕ, suc, _-_, _≤_}
+use Prim.Native.Nat.{ℕ, _-_, _≤_}
 use native.Mathlib.Numerals.{add-one}
 use native.Mathlib.Omega.{arith}
 use lib.ListN.{length, take, drop, getD, set, length-set}
@@ -10,7 +10,7 @@ use Rattle.numbers.proofs.Stores.{one-stored}
 use Rattle.refusals.specs.Order.{unchecked}
 use Rattle.refusals.proofs.FillWays.{small-fill, whole-fill}
 use borrow.Author.Needs.{needs}
-use Rattle.spiral_table.specs.UnitSpiralTable.{unitSpiralTable}
+use Rattle.spiral_table.specs.UnitSpiralTable.{unitSpiralTable, tableIn}
 use Rattle.spiral_table.proofs.EachEntry.{table-length}
 use Rattle.spiral_table.proofs.table_numbers.Statement.{statement}
 use Rattle.spiral_table.proofs.table_numbers.Tie as tie
@@ -23,6 +23,7 @@ abbrev μ-loop : tie.MeasureT-loop
 μ-loop ratios₀ table k₀ ratios k = 1002 - k
 
 returns : tie.Need-returns Inv-loop μ-loop
+unfolding tableIn
 returns c = small-fill unchecked unitSpiralTable (c .before .before .args .ratios .now) refl table-length (omega (arith, c .if1 .taken))
 
 entries-requires : tie.Need-entries-requires Inv-loop μ-loop
@@ -69,6 +70,7 @@ same-length : tie.Need-same-length Inv-loop μ-loop
 same-length c = c .before .loop .inv .1
 
 returns-2 : tie.Need-returns-2 Inv-loop μ-loop
+unfolding tableIn
 returns-2 c =
     let start = c .before .before .before .before .before in
     let loop = c .before .loop in

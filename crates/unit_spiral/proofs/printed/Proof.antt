@@ -8,7 +8,7 @@ use Rattle.refusals.specs.Order.{unchecked}
 use Rattle.refusals.specs.Filling.{fill}
 use Rattle.refusals.proofs.FillWays.{exact-fill}
 use Rattle.report.specs.Text.{tableText}
-use Rattle.spiral_table.specs.UnitSpiralTable.{unitSpiralTable}
+use Rattle.spiral_table.specs.UnitSpiralTable.{unitSpiralTable, tableIn}
 use Rattle.spiral_table.proofs.EachEntry.{table-length}
 use Rattle.unit_spiral.proofs.PrintedText.{printed-text}
 use Rattle.unit_spiral.proofs.printed.Statement.{statement}
@@ -30,8 +30,9 @@ table-text-requires : tie.Need-table-text-requires
 table-text-requires c κs = search needs
 
 returns : tie.Need-returns
+unfolding tableIn
 returns c =
-    let numbers = c .before .before .before .before .before .table-numbers .ensures .1 ∙ exact-fill unitSpiralTable _ table-length in
+    let numbers = c .before .before .before .before .before .table-numbers .ensures .1 ∙ exact-fill unitSpiralTable (replicate 1002 0) table-length in
     c .before .table-text .ensures .1
     ∙ ap (λ (table : List ℕ). fill unchecked (tableText table) (replicate 11574 0) .buffer) numbers
     ∙ exact-fill (tableText unitSpiralTable) (replicate 11574 0) (printed-text .size)
