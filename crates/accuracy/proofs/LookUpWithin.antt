@@ -40,6 +40,6 @@ look-up-within r L e =
     let angle = row-angle r (leb-true r 500 (checked .0)) in
     let short = leb-true L 500000 (checked .1) in
     record {
-      X = within spiralTolerance (near-length L 2000 2000 (omega (arith, short)) (omega (arith, short)) (near-unit-x (exactRowAngle r) angle)) (lit≤ tt) (lit≤ tt);
-      Y = within spiralTolerance (near-length L 2000 2000 (omega (arith, short)) (omega (arith, short)) (near-unit-y (exactRowAngle r) angle)) (lit≤ tt) (lit≤ tt);
+      X = within spiralTolerance (near-length L 1004 1551 (omega (arith, short)) (omega (arith, short)) (near-unit-x (exactRowAngle r) angle)) (lit≤ tt) (lit≤ tt);
+      Y = within spiralTolerance (near-length L 1501 1018 (omega (arith, short)) (omega (arith, short)) (near-unit-y (exactRowAngle r) angle)) (lit≤ tt) (lit≤ tt);
     }

@@ -31,6 +31,7 @@ fn entries() -> [u32; TABLE_NUMBERS]
     TABLE
 }
 
+// The row of an angle in thousandths of a radian; the table is laid out once for both numbers.
 fn row_at(thousandth: usize) -> Row
     requires { ⌜ thousandth ≤ 500 ⌝ }
     ensures { λ row. ⌜ (pos (row .x) ≡ unitX (rowAngle thousandth)) × (pos (row .y) ≡ unitY (rowAngle thousandth)) ⌝ }
