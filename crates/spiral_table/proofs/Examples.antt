@@ -1,16 +1,19 @@
 -- Rows of the table, and look-ups, by computation: both ends, rows where one rounding of the rule tells, the sums of both columns; where a last
 -- division leaves one half and just less; refusals; the caller's numbers. Assumes nothing.
-use mathlib.Core.Path.{_≡_, refl}
+use mathlib.Core.Path.{_≡_, refl, sym}
 use mathlib.Core.List.{List, [], _∷_}
 use Prim.Native.Nat.{ℕ, _+_, _*_}
 use lib.IntN.{pos}
 use lib.ListN.{getD, drop, replicate}
 use Rattle.refusals.specs.Filling.{filled, unfilled, withRoom, fill}
 use Rattle.refusals.specs.Replying.{Reply, answered, declined, reply}
-use Rattle.elements.specs.WorkingRule.{rounded, t2, t3, t4, t5, t6, unitX, unitY}
-use Rattle.elements.specs.SpiralPoint.{Offsets}
+use Rattle.elements.specs.declared.PointAnswer.{PointAnswer}
+use Rattle.elements.specs.WorkingRule.{rounded, spiralAngle, t2, t3, t4, t5, t6, unitX, unitY}
+use Rattle.elements.specs.SpiralPoint.{Offsets, pointReplyOf}
+use Rattle.elements.proofs.Examples as curves
 use Rattle.spiral_table.specs.UnitSpiralTable.{rowAngle, rowsFrom, unitSpiralTable, tableIn}
 use Rattle.spiral_table.specs.LookUp.{endBy, lookUpChecks, lookUpReply}
+use Rattle.spiral_table.proofs.AsElements.{look-up-as-elements}
 
 -- Row r as the table holds it.
 abbrev rowOf : ℕ → List ℕ
@@ -83,3 +86,11 @@ examples =
       too-small = refl;
       as-lent = refl;
     }
+
+-- The longest spiral that a curve can have, R = L = 500,000 mm: X and Y of its element call, by the law.
+pub widest-spiral : (a : PointAnswer) → pointReplyOf a ≡ lookUpReply 500 500000 → pointReplyOf a ≡ found 487643841 81857075
+unfolding spiralAngle rowAngle
+widest-spiral a looked =
+    look-up-as-elements 432000 500000 500000 500 refl
+    (record { x = 487643841; y = 81857075; centre = 247931072; shift = 20648355; arc = 547197551; tangent = 1149720476 }) a
+    (sym (curves.examples .widest-spiral)) looked
