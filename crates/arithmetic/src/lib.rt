@@ -1,4 +1,6 @@
 // Exact arithmetic on whole numbers: the whole root, and the order of two products that no 64 bits hold.
+#![tactic(auto)]
+
 mod product;
 mod square_root;
 

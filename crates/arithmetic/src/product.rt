@@ -2,7 +2,7 @@
 ghost use Rattle.std.specs.Prelude.{◌≡◌, ◌*◌, ◌/◌, ◌%◌, ◌^◌, leb};
 
 // A product as a whole number of 2^32 and the rest.
-#[derive(Drop)]
+#[derive(Clone, Copy)]
 struct Product {
     high: u64,
     low: u64,

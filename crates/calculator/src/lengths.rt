@@ -14,7 +14,7 @@ use line::{Line, check_line};
 use refusals::{Refusal, Verdict};
 
 // The tangents and the arcs of a line's curves; beside a refusal they mean nothing.
-#[derive(Drop)]
+#[derive(Clone, Copy)]
 struct CurveLengths {
     verdict: Verdict,
     // One entry more than there can be curves: no tangent follows the last distance.

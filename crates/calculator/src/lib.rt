@@ -1,4 +1,6 @@
 // The lengths and the stations of a whole line by document 01's working rule.
+#![tactic(auto)]
+
 mod lengths;
 mod row;
 mod tables;
@@ -9,7 +11,7 @@ pub use row::stations;
 
 // The straights and the arcs of a line, in µm: straight i is that of distance i (0 to n), arc i that of curve i + 1. Unused entries are 0,
 // and all are beside a refusal.
-#[derive(Drop)]
+#[derive(Clone, Copy)]
 pub struct LineLengths {
     pub verdict: Verdict,
     pub straights: [u64; 65],

@@ -1,4 +1,6 @@
 // The converter of document 02, N6: a sheet of one edition to the sheet of the same line in the other.
+#![tactic(auto)]
+
 ghost use Rattle.std.specs.Prelude.{◌≡◌, ℕ, take};
 ghost use Rattle.refusals.specs.Outcomes.{outcome_of};
 ghost use Rattle.refusals.specs.Order.{outcome};

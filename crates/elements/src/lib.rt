@@ -1,4 +1,6 @@
 // The elements of one curve, the points of its spirals, and the sine and cosine of a turn, by document 01's working rule.
+#![tactic(auto)]
+
 mod point;
 mod rule;
 mod series;
@@ -14,7 +16,7 @@ pub use rule::{curve_elements, scaled_length};
 pub use turn::turn_ratios;
 
 // The elements of a curve, in µm.
-#[derive(Drop)]
+#[derive(Clone, Copy)]
 pub struct Elements {
     // X: the end of the spiral, along the tangent.
     pub x: u64,
@@ -31,14 +33,14 @@ pub struct Elements {
 }
 
 // What the call for one curve's elements answers.
-#[derive(Drop)]
+#[derive(Clone, Copy)]
 pub enum ElementAnswer {
     Found(Elements),
     Refused(Refusal),
 }
 
 // A point of a spiral: its offsets from the tangent at the spiral's outer end, in µm.
-#[derive(Drop)]
+#[derive(Clone, Copy)]
 pub struct SpiralPoint {
     // Along the tangent.
     pub x: u64,
@@ -47,14 +49,14 @@ pub struct SpiralPoint {
 }
 
 // What the call for one point of a spiral answers.
-#[derive(Drop)]
+#[derive(Clone, Copy)]
 pub enum PointAnswer {
     Found(SpiralPoint),
     Refused(Refusal),
 }
 
 // The sine and the cosine of a turn, at scale 10⁹.
-#[derive(Drop)]
+#[derive(Clone, Copy)]
 pub struct TurnRatios {
     pub sine: u32,
     pub cosine: u32,

@@ -12,14 +12,14 @@ use crate::{ElementAnswer, Elements, SCALE};
 use refusals::{Refusal, Verdict};
 
 // A coordinate of the spiral's end, and what is left of it without the radius's part.
-#[derive(Drop)]
+#[derive(Clone, Copy)]
 struct Offset {
     end: u64,
     rest: u64,
 }
 
 // What the radius and the spiral give alone: X, Y, k and p.
-#[derive(Drop)]
+#[derive(Clone, Copy)]
 struct Spirals {
     x: u64,
     y: u64,

@@ -1,4 +1,6 @@
 // The height of a profile at a station (document 02, N5).
+#![tactic(auto)]
+
 mod checks;
 mod parabola;
 mod stopping;

@@ -1,4 +1,6 @@
 // The totals of a sheet's line, and as text: reader, totals and report, one after the other (document 02, N9).
+#![tactic(auto)]
+
 ghost use Rattle.std.specs.Prelude.{◌≡◌, length};
 ghost use Rattle.io.specs.Counts.{IsPrefixLen};
 ghost use Rattle.refusals.specs.Order.{unchecked};

@@ -1,4 +1,6 @@
 // The line of document 01: its fields with their units, and the checks of its fields.
+#![tactic(auto)]
+
 mod checks;
 
 ghost use Rattle.std.specs.Prelude.{◌≡◌};
@@ -8,7 +10,7 @@ pub use checks::{check_curve, check_distance, check_fields, check_head, check_li
 
 // A curve at an intersection point (PI), with two equal spirals or none. Any value of each type may
 // stand here; `check_curve` says which are in range.
-#[derive(Drop)]
+#[derive(Clone, Copy)]
 pub struct Curve {
     // The side to which the line turns: left, or else right.
     pub left: bool,
@@ -22,7 +24,7 @@ pub struct Curve {
 
 // A line of `count` curves: the first `count` entries of `curves` and the first `count + 1` of
 // `distances` are used, the others mean nothing.
-#[derive(Drop)]
+#[derive(Clone, Copy)]
 pub struct Line {
     // The design speed V, in km/h.
     pub speed: u32,

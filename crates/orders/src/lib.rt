@@ -1,1 +1,2 @@
 // What holds of a line's row of stations and of the calculator's refusals; there is no code here.
+#![tactic(auto)]

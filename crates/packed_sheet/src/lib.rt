@@ -1,8 +1,9 @@
 // The packed sheet of documents 01 and 02: its editions, its layout, what line a sheet means, and which sheet a line has. There are no
 // functions here.
+#![tactic(auto)]
 
 // What sets one edition of the sheet apart from another.
-#[derive(Drop)]
+#[derive(Clone, Copy)]
 pub struct Edition {
     pub number: u32,
     // The width of the start, in bits.
@@ -12,7 +13,7 @@ pub struct Edition {
 }
 
 // The head's fields.
-#[derive(Drop)]
+#[derive(Clone, Copy)]
 pub struct Head {
     pub edition: u32,
     pub count: usize,

@@ -1,4 +1,6 @@
 // The element under a station (document 02, N1).
+#![tactic(auto)]
+
 mod stored;
 mod walk;
 
@@ -8,7 +10,7 @@ pub use stored::peg_numbers;
 pub use walk::peg_at;
 
 // Where a station lies. Lengths and offsets are in µm.
-#[derive(Drop)]
+#[derive(Clone, Copy)]
 pub struct Peg {
     // A straight, or a spiral or the arc of a curve.
     pub kind: ElementKind,
@@ -23,7 +25,7 @@ pub struct Peg {
 }
 
 // What the call for a station answers.
-#[derive(Drop)]
+#[derive(Clone, Copy)]
 pub enum PegAnswer {
     Found(Peg),
     Refused(Refusal),

@@ -20,7 +20,7 @@ use signed::size;
 use turns::turn;
 
 // The turn at a PI: to the left or else to the right, and by how many seconds; 216,001 for every turn that 20 refuses.
-#[derive(Drop)]
+#[derive(Clone, Copy)]
 struct Bend {
     left: bool,
     seconds: u32,

@@ -1,5 +1,7 @@
 // The library for callers in C and Rust, whose header is `include/pokyandi.h`. An answer is one number: the count of what was
 // written at the front of the caller's buffer, or, from bit 32 on, the number of a refusal, with its place below.
+#![tactic(auto)]
+
 mod answer;
 mod curves;
 mod lines;

@@ -1,9 +1,11 @@
 // A profile (document 02, N5): its fields with their units, and what a height call answers; there are no functions here.
+#![tactic(auto)]
+
 use refusals::Refusal;
 
 // A profile of `count` vertices: the first `count` entries of the arrays are used, the others mean nothing. Any value of each type may stand here;
 // the checks say which are in range.
-#[derive(Drop)]
+#[derive(Clone, Copy)]
 pub struct Profile {
     // The design speed V, in km/h.
     pub speed: u64,
@@ -24,7 +26,7 @@ pub struct Profile {
 }
 
 // A height in mm, or why there is none.
-#[derive(Drop)]
+#[derive(Clone, Copy)]
 pub enum HeightAnswer {
     Found(i64),
     Refused(Refusal),

@@ -1,4 +1,6 @@
 // A profile as numbers, for callers in other languages, and its height at a station.
+#![tactic(auto)]
+
 mod call;
 mod reader;
 

@@ -1,10 +1,12 @@
 // The refusals of document 01's table, which document 02's numbers join, by name with their places, and the verdict of a check.
+#![tactic(auto)]
+
 ghost use Rattle.std.specs.Prelude.{◌≡◌};
 ghost use Rattle.refusals.specs.Table.{number_of, place_of};
 ghost use Rattle.refusals.specs.Outcomes.{outcome_of, need, ◌▹◌};
 
 // A refusal with its place: the index of a distance (0 to n), the number of a curve or a vertex (1 to n), or none.
-#[derive(Drop)]
+#[derive(Clone, Copy)]
 pub enum Refusal {
     // 1: too few bytes.
     Truncated,
@@ -59,14 +61,14 @@ pub enum Refusal {
 }
 
 // What a call that fills a caller's buffer answers: how many entries it wrote at the buffer's front, or why it wrote none.
-#[derive(Drop)]
+#[derive(Clone, Copy)]
 pub enum FillAnswer {
     Count(usize),
     Refused(Refusal),
 }
 
 // What a check says.
-#[derive(Drop)]
+#[derive(Clone, Copy)]
 pub enum Verdict {
     Pass,
     Refused(Refusal),

@@ -1,4 +1,6 @@
 // The packed sheet of documents 01 and 02: a line as bytes, read and written, in either edition.
+#![tactic(auto)]
+
 mod fields;
 mod layout;
 mod pen;

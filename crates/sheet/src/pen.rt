@@ -10,7 +10,7 @@ use line::Line;
 use packed_sheet::Edition;
 
 // How far the sheet is written: `at` of its bytes are stored, and the last `held` bits of `pending`, less than a word, wait.
-#[derive(Drop)]
+#[derive(Clone, Copy)]
 pub(crate) struct Pen {
     pub at: usize,
     pub pending: u64,

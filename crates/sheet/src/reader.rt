@@ -20,7 +20,7 @@ use refusals::{Refusal, Verdict, first, must};
 
 // What the reader answers: that all is well, the number of the sheet's edition, and the line; or the first refusal, 0, and a line whose
 // fields are all zero.
-#[derive(Drop)]
+#[derive(Clone, Copy)]
 pub struct ReadAnswer {
     pub verdict: Verdict,
     pub edition: u32,

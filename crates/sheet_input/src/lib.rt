@@ -1,4 +1,6 @@
 // The sheet on standard input, as the programs of documents 01 and 02 read it.
+#![tactic(auto)]
+
 ghost use Rattle.std.specs.Prelude.{◌≤◌, length};
 ghost use Rattle.io.specs.Counts.{IsPrefixLen};
 
@@ -8,7 +10,7 @@ use libc::STDIN_FILENO;
 pub const ROOM: usize = 707;
 
 // What was read, the first `size` of `bytes`, and whether a read failed; errno is then that read's.
-#[derive(Drop)]
+#[derive(Clone, Copy)]
 pub struct Input {
     pub bytes: [u8; ROOM],
     pub size: usize,

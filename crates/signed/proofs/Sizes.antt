@@ -68,4 +68,4 @@ not_below (negsuc a) e = absurd (let z : ◌≡◌ {A = ℕ} 0 1 = cc in omega a
 
 -- What a call hands back is what the machine holds: `kept c.f.ok`.
 pub kept : {z : ℤ} → mag z < 9223372036854775808 → to_z w64 (of_z w64 z) ≡ z
-kept h = to_z-of_z (record { sfits = h })
+kept h = to_z-of_z {w = w64} (record { sfits = h })

@@ -1,4 +1,6 @@
 // Signed numbers: their sizes, and what keeps sums, products and quotients of them in 64 bits.
+#![tactic(auto)]
+
 ghost use Rattle.std.specs.Prelude.{◌≡◌, nat_abs};
 
 // A number without its sign.

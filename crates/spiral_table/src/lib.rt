@@ -1,4 +1,6 @@
 // The table of the spiral of length one, and the look-up in it (document 02, N8): ratios at scale 10⁹, lengths in mm, X and Y in µm.
+#![tactic(auto)]
+
 mod table;
 
 ghost use Rattle.std.specs.Prelude.{◌≡◌, ◌≤◌, pos};
@@ -16,7 +18,7 @@ use refusals::{FillAnswer, Refusal};
 pub const TABLE_NUMBERS: usize = 1002;
 
 // A row of the table.
-#[derive(Drop)]
+#[derive(Clone, Copy)]
 struct Row {
     x: u32,
     y: u32,

@@ -1,4 +1,6 @@
 // A sheet's stations as text: reader, calculator and report, one after the other (document 01, "The station program").
+#![tactic(auto)]
+
 ghost use Rattle.std.specs.Prelude.{◌≡◌, length};
 ghost use Rattle.io.specs.Counts.{IsPrefixLen};
 ghost use Rattle.refusals.specs.Order.{unchecked};

@@ -1,5 +1,7 @@
 // The station program (document 01): the sheet on standard input, at most 707 bytes of it, to its stations on standard output. Where
 // reading or writing fails, standard error says why; after a failed read nothing is printed.
+#![tactic(auto)]
+
 ghost use Rattle.std.specs.Prelude.{◌≤◌, length};
 
 use libc::{STDIN_FILENO, STDOUT_FILENO};

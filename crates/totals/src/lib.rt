@@ -1,4 +1,6 @@
 // The totals of a line's straights, spirals and arcs, and their sum (document 02, N9).
+#![tactic(auto)]
+
 ghost use Rattle.std.specs.Prelude.{◌≡◌};
 ghost use Rattle.refusals.specs.Outcomes.{passed};
 ghost use Rattle.refusals.specs.Order.{outcome};
@@ -11,7 +13,7 @@ use line::Line;
 use refusals::{Refusal, Verdict};
 
 // What the elements of a line add up to, by kind and all together, in µm.
-#[derive(Drop)]
+#[derive(Clone, Copy)]
 pub struct Totals {
     // Of the n + 1 straights.
     pub straights: u64,
@@ -23,7 +25,7 @@ pub struct Totals {
 }
 
 // What the call for a line's totals answers.
-#[derive(Drop)]
+#[derive(Clone, Copy)]
 pub enum TotalsAnswer {
     Found(Totals),
     Refused(Refusal),

@@ -1,4 +1,6 @@
 // The deflection at a PI by document 02 (N2), from the size of the cross product of the legs into and out of it and from their dot product.
+#![tactic(auto)]
+
 ghost use Rattle.std.specs.Prelude.{◌≡◌, ◌≤◌, pos};
 ghost use Rattle.turns.specs.Turn.{reached, turn_or_wide};
 ghost use Rattle.turns.specs.Search.{Bracket};

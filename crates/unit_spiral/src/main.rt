@@ -1,5 +1,7 @@
 // The program of the unit spiral table (document 02, N8): its 501 rows on standard output, each a line of row, x and y. Where writing fails,
 // standard error says why.
+#![tactic(auto)]
+
 ghost use Rattle.std.specs.Prelude.{◌≡◌};
 ghost use Rattle.report.specs.Text.{table_text};
 ghost use Rattle.spiral_table.specs.UnitSpiralTable.{unit_spiral_table};

@@ -3,28 +3,24 @@ use Prim.Native.Nat.{ℕ, ◌*◌, ◌/◌, ◌%◌, ◌≤◌, ◌<◌}
 use native.Mathlib.Nat.{mul-le-mul}
 use native.Mathlib.Omega.{arith}
 use Rattle.arithmetic.proofs.Parts.{part, cut}
-use Rattle.arithmetic.proofs.product.cut_product.Statement.{statement}
-use Rattle.arithmetic.proofs.product.cut_product.Tie as tie
+use Rattle.arithmetic.proofs.product.cut_product.Goals as goal
 
 product_most : (a b : ℕ) → a < part → b < part → a * b ≤ 4294967295 * 4294967295
 product_most a b g h = mul-le-mul {n₁ = a} {m₁ = b} {n₂ = 4294967295} {m₂ = 4294967295} (omega arith) (omega arith)
 
-mul-carried : tie.Need-overflow-mul-carried
-mul-carried c = omega (arith, product_most (c.args.a % part) c.args.b (omega arith) (omega arith))
+pub overflow_mul-carried : goal.overflow_mul-carried
+overflow_mul-carried c = omega (arith, product_most (c.args.a % part) c.args.b (omega arith) (omega arith))
 
-mul-t6 : tie.Need-overflow-mul-t6
-mul-t6 c = omega (arith, product_most (c.args.a / part) c.args.b (omega arith) (omega arith))
+pub overflow_mul-result : goal.overflow_mul-result
+overflow_mul-result c = omega (arith, product_most (c.args.a / part) c.args.b (omega arith) (omega arith))
 
-add-t8 : tie.Need-overflow-add-t8
-add-t8 c =
+pub overflow_add-result : goal.overflow_add-result
+overflow_add-result c =
     omega (
       arith,
       product_most (c.args.a % part) c.args.b (omega arith) (omega arith),
       product_most (c.args.a / part) c.args.b (omega arith) (omega arith),
     )
 
-returns : tie.Need-returns
+pub returns : goal.returns
 returns c = let e = cut c.args.a c.args.b in (omega arith, omega arith)
-
-pub cut-product-spec : {M : Type 1} → statement M
-cut-product-spec = tie.close (tie.spec mul-carried mul-t6 add-t8 returns)
