@@ -7,24 +7,14 @@ use Rattle.numbers.proofs.Ranges.{at_least, at_most}
 use Rattle.elements.specs.WorkingRule.{scale, term, alternating, cosine_of, cosine_divisor}
 use Rattle.elements.proofs.SineAndCosine.{greatest_turn_angle, cosine_above}
 use borrow.Author.Rules.{rules}
-use Rattle.elements.proofs.series.cosine.Statement.{statement}
-use Rattle.elements.proofs.series.cosine.Tie as tie
+use Rattle.elements.proofs.series.cosine.Goals as goal
 
-square-requires : tie.Need-square-requires
-square-requires c κs = search rules
-
-series-requires : tie.Need-series-requires
-series-requires c κs = search rules
-
-returns : tie.Need-returns
+pub returns : goal.returns
 unfolding cosine_of
 returns c =
-    let q = c.before.before.args.q in
+    let q = c.args.q in
     let is : pos c.series.result ≡ cosine_of q =
     c.series.ensures cosine_divisor refl refl refl refl refl refl
-    ∙ ap (λ (z : ℕ). alternating (term cosine_divisor scale z) 6) c.before.square.ensures.0 in
-    let b = cosine_above greatest_turn_angle q (omega arith) c.before.before.requires in
+    ∙ ap (λ (z : ℕ). alternating (term cosine_divisor scale z) 6) c.square.ensures.0 in
+    let b = cosine_above greatest_turn_angle q (omega arith) c.requires in
     (is, at_least is b, at_most is b)
-
-pub cosine-spec : {M : Type 1} → statement M
-cosine-spec = tie.close (tie.spec square-requires series-requires returns)
