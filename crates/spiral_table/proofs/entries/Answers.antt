@@ -2,12 +2,8 @@
 use mathlib.Core.Path.{refl}
 use Rattle.elements.specs.WorkingRule.{t2, t3, t4, t5, t6, unit_x, unit_y}
 use Rattle.spiral_table.specs.UnitSpiralTable.{row_angle, rows_from, unit_spiral_table}
-use Rattle.spiral_table.proofs.entries.Statement.{statement}
-use Rattle.spiral_table.proofs.entries.Tie as tie
+use Rattle.spiral_table.proofs.entries.Goals as goal
 
-returns : tie.Need-returns
+pub returns : goal.returns
 unfolding unit_spiral_table rows_from row_angle unit_x unit_y t2 t3 t4 t5 t6
 returns c = refl
-
-pub entries-spec : {M : Type 1} → statement M
-entries-spec = tie.close (tie.spec returns)

@@ -1,0 +1,11 @@
+-- `search`: the bounds close in on the turn. Assumes nothing.
+use Rattle.std.proofs.Common.{◌-◌, sym, ◌∙◌, arith, rules}
+use Rattle.turns.specs.Search.{Bracket}
+use Rattle.turns.proofs.Bounds.{bracketed, from_reached, to_not_reached}
+use Rattle.turns.proofs.search.Given as goal
+
+abbrev pub invariant-loop-low : goal.invariant-loop-low
+invariant-loop-low l = Bracket l.cross l.dot l.low l.high
+
+abbrev pub decreases-loop-low : goal.decreases-loop-low
+decreases-loop-low l = l.high - l.low
