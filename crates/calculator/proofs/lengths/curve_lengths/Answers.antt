@@ -48,11 +48,10 @@ returns-in_default-answer c =
     let here = c.loop-i-test.true in
     let least = c.check_least-least in
     let passes = c.in-Pass.is in
-    let refusal = c.enum_told-in_default-answer-1.given in
-    let answer = ap reply_of (sym refusal.1) ∙ c.curve_elements-answer.ensures in
+    let answer = ap reply_of (sym c.in_default-answer.is) ∙ c.curve_elements-answer.ensures in
     let ok = c.requires.curve loop.i here in
     record {
-      outcome = arc_refused c.args.line loop.i _ least.ensures loop.invariant.1 passes refusal.0.0 _ here ok answer;
+      outcome = arc_refused c.args.line loop.i _ least.ensures loop.invariant.1 passes c.in_default-answer.field-0 _ here ok answer;
       tangents = λ e. not_both refl e;
       arcs = λ e. not_both refl e;
     }

@@ -77,10 +77,10 @@ loop-i-preserved c =
       search rules,
       loop.invariant.1,
       loop.invariant.2,
-      stored.auto.0 ∙ loop.invariant.3,
-      next_st line loop.i loop.invariant.4 straight refl arc stored.ensures.0,
+      stored.auto.row ∙ loop.invariant.3,
+      next_st line loop.i loop.invariant.4 straight refl arc stored.ensures.value,
       curve_stored line loop.i loop.invariant.4 straight refl arc c.args.row.now loop.row _ (omega (arith, room, here))
-          loop.invariant.5 stored.ensures.1,
+          loop.invariant.5 stored.ensures.row_after,
     )
 
 pub bounds-lengths-n : goal.bounds-lengths-n

@@ -37,7 +37,7 @@ returns-in-Pass c =
       let lengths = c.line_lengths-lengths.ensures in
     let line = c.args.line in
     let checked = sym (ap outcome_of c.in-Pass.is) ∙ lengths.verdict in
-    refill unchecked (alignment_checks line) (station_row line) (station_row line) c.args.row.now checked refl c.fill.ensures) in
+    refill unchecked (alignment_checks line) (station_row line) (station_row line) c.args.row.now checked refl (c.fill.ensures.result_value, c.fill.ensures.row_after)) in
     record {
       answer = met.0;
       memory = met.1;
