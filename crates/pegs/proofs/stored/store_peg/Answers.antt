@@ -39,5 +39,5 @@ returns c =
     let whole = whole_fill unchecked (peg_numbers (values_of peg)) numbers refl refl (omega (arith, room)) (sets-eq (peg_numbers (values_of peg)) numbers 0 (omega (arith, room))) in
     record {
       result_value = whole.0;
-      numbers_after = rw (to_z-of_z (record { sfits = kind.type_inv }), kind.ensures, to_z_pos w64 {n = peg.number} (let h = c.type_inv in ?), to_z_pos w64 {n = peg.length} (omega (arith, c.requires.0)), to_z_pos w64 {n = peg.x} (omega (arith, c.requires.1)), small_held peg.y c.requires.2) whole.1;
+      numbers_after = rw (to_z-of_z (record { sfits = kind.type_inv }), kind.ensures, to_z_pos w64 {n = peg.number} (omega arith), to_z_pos w64 {n = peg.length} (omega (arith, c.requires.0)), to_z_pos w64 {n = peg.x} (omega (arith, c.requires.1)), small_held peg.y c.requires.2) whole.1;
     }
