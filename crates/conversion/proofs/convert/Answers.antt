@@ -17,8 +17,7 @@ use Rattle.packed_sheet.specs.Writing.{sheet_of, write_checks, sheet_in}
 use Rattle.conversion.specs.Conversion.{asked_checks, convert_checks, converted, conversion}
 use Rattle.conversion.proofs.Accepted.{writes}
 use Rattle.conversion.proofs.Written.{comes_back}
-use Rattle.conversion.proofs.convert.Statement.{statement}
-use Rattle.conversion.proofs.convert.Tie as tie
+use Rattle.conversion.proofs.convert.Goals as goal
 
 module _ (sheet : List ℕ) (asked : ℕ) where
   -- The verdicts of reading and asking, joined.
@@ -41,27 +40,6 @@ module _ (sheet : List ℕ) (asked : ℕ) where
       let checks = ap (λ (l : Line). outcome (write_checks asked l)) same ∙ writes sheet asked accepted ∙ sym accepted in
       refill (write_checks asked line) (convert_checks sheet asked) (sheet_of (numbered asked) line) (converted sheet asked) bytes checks (ap (sheet_of (numbered asked)) same) told
 
-read-requires : tie.Need-read-requires
-read-requires c κs = search rules
-
-check-asked-requires : tie.Need-check-asked-requires
-check-asked-requires c κs = search rules
-
-first-requires : tie.Need-first-requires
-first-requires c κs = search rules
-
-enum_told : tie.Need-enum-told
-enum_told c = search rules
-
-write-requires : tie.Need-write-requires
-write-requires c κs = search rules
-
-enum-known-verdict : tie.Need-enum-known-verdict
-enum-known-verdict c = search rules
-
-same_length : tie.Need-same-length
-same_length c = search rules
-
 -- All that is promised, from answer and memory.
 promised : (sheet : List ℕ) → Bytes sheet → (asked : ℕ) (bytes : List ℕ) {reply : FillReply} {after : List ℕ}
     → (reply ≡ (conversion sheet asked bytes).reply) × (after ≡ (conversion sheet asked bytes).buffer)
@@ -70,37 +48,31 @@ promised : (sheet : List ℕ) → Bytes sheet → (asked : ℕ) (bytes : List �
 promised sheet octets asked bytes told =
     (told.0, (told.1, λ count counted. comes_back sheet bytes asked (sym told.0 ∙ counted) octets told.1))
 
-returns : tie.Need-returns
-returns c =
-    let joined = c.before.before.before.before.before.before in
-    let known = joined.before.before.before.before.before in
-    let a = known.before.args in
-    let read = joined.before.before.before.read.ensures in
-    let all = checked a.sheet.now a.edition joined.first.ensures read.0 read.1.0 read.1.1.0 joined.before.check-asked.ensures in
-    let passes = sym all ∙ ap outcome_of c.before.before.before.before.enum_told.given.1 in
-    promised a.sheet.now (λ i. (known.shared-slice-known.given i).fits) a.edition a.bytes.now
-    (written_reply a.sheet.now a.edition a.bytes.now passes read.1.1.0 c.before.before.write.ensures)
+pub returns-in-Pass : goal.returns-in-Pass
+returns-in-Pass c =
+    let met = (
+      let a = c.args in
+    let read = c.read-read.ensures in
+    let all = checked a.sheet.now a.edition c.first-verdict.ensures read.answer read.edition read.line c.check_asked-asked.ensures in
+    let passes = sym all ∙ ap outcome_of c.in-Pass.is in
+    promised a.sheet.now (λ i. (c.shared_slice_known-1.given i).fits) a.edition a.bytes.now
+    (written_reply a.sheet.now a.edition a.bytes.now passes read.line (c.write.ensures.answer, c.write.ensures.memory))) in
+    record {
+      answer = met.0;
+      memory = met.1.0;
+      back = met.1.1;
+    }
 
-returns-2 : tie.Need-returns-2
-returns-2 c =
-    let joined = c.before.before.before in
-    let known = joined.before.before.before.before.before in
-    let a = known.before.args in
-    let read = joined.before.before.before.read.ensures in
-    let all = checked a.sheet.now a.edition joined.first.ensures read.0 read.1.0 read.1.1.0 joined.before.check-asked.ensures in
-    promised a.sheet.now (λ i. (known.shared-slice-known.given i).fits) a.edition a.bytes.now
-    (refused_reply a.sheet.now a.edition a.bytes.now (sym all ∙ ap outcome_of c.before.verdict.given.1))
-
-pub convert-spec : {M : Type 1} → statement M
-convert-spec =
-    tie.close
-    (tie.spec
-    read-requires
-    check-asked-requires
-    first-requires
-    enum_told
-    write-requires
-    enum-known-verdict
-    same_length
-    returns
-    returns-2)
+pub returns-in-Refused : goal.returns-in-Refused
+returns-in-Refused c =
+    let met = (
+      let a = c.args in
+    let read = c.read-read.ensures in
+    let all = checked a.sheet.now a.edition c.first-verdict.ensures read.answer read.edition read.line c.check_asked-asked.ensures in
+    promised a.sheet.now (λ i. (c.shared_slice_known-1.given i).fits) a.edition a.bytes.now
+    (refused_reply a.sheet.now a.edition a.bytes.now (sym all ∙ ap outcome_of c.in-Refused.is))) in
+    record {
+      answer = met.0;
+      memory = met.1.0;
+      back = met.1.1;
+    }
