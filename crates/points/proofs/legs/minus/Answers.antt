@@ -5,19 +5,16 @@ use lib.IntN.{ℤ, nat_abs, ◌-ℤ◌}
 use mir.Syntax.{w64}
 use mir.Val.{SFits}
 use Rattle.signed.proofs.Sizes.{size_difference, small_fits, op_fits, op_held}
-use Rattle.points.proofs.legs.minus.Statement.{statement}
-use Rattle.points.proofs.legs.minus.Tie as tie
+use Rattle.points.proofs.legs.minus.Goals as goal
 
 fits : (x y : ℤ) → nat_abs x ≤ 1000000000000000 → nat_abs y ≤ 1000000000000000 → SFits w64 (x -ℤ y)
 fits x y f g = small_fits (x -ℤ y) (omega (arith, size_difference x y))
 
-sub-result : tie.Need-overflow-sub-result
-sub-result c = op_fits ◌-ℤ◌ c.args.x c.args.y c.ranges.x c.ranges.y (fits c.args.x c.args.y c.requires.0 c.requires.1)
+pub overflow_sub-result : goal.overflow_sub-result
+overflow_sub-result c =
+    op_fits ◌-ℤ◌ c.args.x c.args.y c.ranges.x c.ranges.y (fits c.args.x c.args.y c.requires.0 c.requires.1)
 
-returns : tie.Need-returns
+pub returns : goal.returns
 returns c =
     let is = op_held ◌-ℤ◌ c.args.x c.args.y c.ranges.x c.ranges.y (fits c.args.x c.args.y c.requires.0 c.requires.1) in
     (is, rw is (size_difference c.args.x c.args.y))
-
-pub minus-spec : {M : Type 1} → statement M
-minus-spec = tie.close (tie.spec sub-result returns)
