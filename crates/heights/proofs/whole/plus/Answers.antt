@@ -2,19 +2,15 @@
 use native.Mathlib.Omega.{arith}
 use lib.IntN.{◌+ℤ◌}
 use Rattle.signed.proofs.Sizes.{size_sum, small_fits, op_fits, op_held}
-use Rattle.heights.proofs.whole.plus.Statement.{statement}
-use Rattle.heights.proofs.whole.plus.Tie as tie
+use Rattle.heights.proofs.whole.plus.Goals as goal
 
-add-result : tie.Need-overflow-add-result
-add-result c =
+pub overflow_add-result : goal.overflow_add-result
+overflow_add-result c =
     let a = c.args in
     op_fits ◌+ℤ◌ a.x a.y c.ranges.x c.ranges.y (small_fits (a.x +ℤ a.y) (omega (arith, size_sum a.x a.y)))
 
-returns : tie.Need-returns
+pub returns : goal.returns
 returns c =
     let a = c.args in
     let is = op_held ◌+ℤ◌ a.x a.y c.ranges.x c.ranges.y (small_fits (a.x +ℤ a.y) (omega (arith, size_sum a.x a.y))) in
     (is, rw is (size_sum a.x a.y))
-
-pub plus-spec : {M : Type 1} → statement M
-plus-spec = tie.close (tie.spec add-result returns)

@@ -6,22 +6,9 @@ use Rattle.numbers.specs.Fractions.{whole, ◌⊕◌, ◌⊗◌, ◌⊘◌, ◌�
 use Rattle.line.specs.Speeds.{under_speed}
 use Rattle.line.proofs.SpeedTables.{tabled}
 use Rattle.sight.specs.Formulas.{stopping, rounded_up, stopping_distance}
-use Rattle.heights.proofs.stopping.stopping_distance.Statement.{statement}
-use Rattle.heights.proofs.stopping.stopping_distance.Tie as tie
+use Rattle.heights.proofs.stopping.stopping_distance.Goals as goal
 
-sub-result : tie.Need-overflow-sub-result
-sub-result c = search rules
-
-mul-result : tie.Need-overflow-mul-result
-mul-result c = search rules
-
-array-read-result : tie.Need-array-read-result
-array-read-result c = search rules
-
-returns : tie.Need-returns
+pub returns : goal.returns
 unfolding whole ◌⊕◌ ◌⊗◌ ◌⊘◌ ◌↑◌ over ratio under_speed stopping rounded_up stopping_distance
 returns c =
     tabled stopping_distance 310 (45 ∷ 64 ∷ 85 ∷ 111 ∷ 140 ∷ 173 ∷ 211 ∷ 267 ∷ 310 ∷ []) refl refl _ _ c.requires.0 c.requires.1 c.requires.2 refl
-
-pub stopping-distance-spec : {M : Type 1} → statement M
-stopping-distance-spec = tie.close (tie.spec sub-result mul-result array-read-result returns)
