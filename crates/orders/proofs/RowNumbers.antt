@@ -2,7 +2,7 @@
 -- nothing.
 use mathlib.Core.Path.{◌≡◌, sym, ◌∙◌, ap, subst}
 use mathlib.Core.List.{List, [], ◌∷◌, ◌++◌}
-use Prim.Native.Nat.{ℕ, suc, ◌+◌, ◌*◌, ◌<◌}
+use Prim.Native.Nat.{ℕ, zero, suc, ◌+◌, ◌*◌, ◌<◌}
 use native.Mathlib.Nat.{add-zero}
 use native.Mathlib.Decide.{dec_lt}
 use native.Mathlib.Omega.{arith}
@@ -38,6 +38,7 @@ module _ (line : Line) where
 
   within_curves : (n i k : ℕ) → i < n → k < 4 → get_or (curve_stations line n) (4 * i + k) (pos 0) ≡ get_or (four_at line i) k (pos 0)
   unfolding curve_stations
+  within_curves zero i k h l = elim h [ ]
   within_curves (suc n) i k h l = go (dec_lt i n) (λ m. within_curves n i k m l)
     where
       go : Dec (i < n) → (i < n → get_or (curve_stations line n) (4 * i + k) (pos 0) ≡ get_or (four_at line i) k (pos 0))

@@ -1,0 +1,27 @@
+-- `store_bytes` meets its contract: each turn stores the sheet's next byte, and the bits behind it are the sheet's still. Assumes nothing.
+use mathlib.Core.Path.{◌≡◌, refl, ◌∙◌}
+use Prim.Native.Nat.{◌+◌, ◌*◌, ◌/◌, ◌%◌, ◌^◌, ◌≤◌}
+use native.Mathlib.Numerals.{add-one}
+use native.Mathlib.Omega.{arith}
+use borrow.Author.Rules.{rules}
+use lib.ListN.{length}
+use Rattle.bits.specs.Bits.{bits_at}
+use Rattle.packed_sheet.specs.Writing.{sheet_of}
+use Rattle.packed_sheet.specs.EachStore.{Stores, none, more}
+use Rattle.packed_sheet.proofs.WaysOut.{sheet_bytes}
+use Rattle.packed_sheet.proofs.SoFar.{store_kept}
+use Rattle.sheet.specs.Pens.{Begun}
+use Rattle.sheet.proofs.Pens.{next_byte}
+use Rattle.sheet.proofs.pen.store_bytes.Given as goal
+
+abbrev pub invariant-loop-left : goal.invariant-loop-left
+invariant-loop-left l = (l.next + l.left / 8 ≡ l.at + l.held / 8)
+    × (l.left ≤ 64)
+    × (8 * l.next + l.left ≤ 8 * length (sheet_of l.edition l.line))
+    × (length l.bytes ≡ length l.initial.bytes)
+    × (l.word % 2 ^ l.left ≡ bits_at (sheet_of l.edition l.line) (8 * l.next) l.left)
+    × Begun l.edition l.line l.bytes l.next
+    × Stores l.edition l.line l.at l.initial.bytes l.next l.bytes
+
+abbrev pub decreases-loop-left : goal.decreases-loop-left
+decreases-loop-left l = l.left
