@@ -11,7 +11,7 @@ use Rattle.pokyandi.proofs.pokyandi_check.Goals as goal
 pub returns : goal.returns
 returns c =
     let met = (
-      let told = c.sheet_stations.ensures in
+    let told = c.sheet_stations.ensures in
     c.answer_number.ensures ∙ ap answer_number (told.result_value ∙ check_reply_lem _ _ (omega (arith, length-replicate {A = ℕ} 257 0)))) in
     record {
       answer = met;

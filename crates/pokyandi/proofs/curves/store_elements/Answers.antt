@@ -32,7 +32,7 @@ bounds-numbers-4 c = simp length-set (omega arith)
 pub returns : goal.returns
 returns c =
     let met = (
-      let numbers = c.args.numbers.now in
+    let numbers = c.args.numbers.now in
     whole_fill unchecked (numbers_of c.args.elements) numbers refl refl (omega (arith, c.if-numbers-lt6.false)) (sets-eq (numbers_of c.args.elements) numbers 0 (omega (arith, c.if-numbers-lt6.false)))) in
     record {
       result_value = met.0;

@@ -19,7 +19,7 @@ returns-then-offsets-lt2 c =
 pub returns : goal.returns
 returns c =
     let met = (
-      let offsets = c.args.offsets.now in
+    let offsets = c.args.offsets.now in
     whole_fill unchecked (end_numbers_of c.args.end) offsets refl refl (omega (arith, c.if-offsets-lt2.false)) (sets-eq (end_numbers_of c.args.end) offsets 0 (omega (arith, c.if-offsets-lt2.false)))) in
     record {
       result_value = met.0;

@@ -8,7 +8,7 @@ use Rattle.pokyandi.proofs.sheets.sheet_peg.Goals as goal
 pub returns-in-Pass : goal.returns-in-Pass
 returns-in-Pass c =
     let met = (
-      let read = c.read-read.ensures in
+    let read = c.read-read.ensures in
     let passes = sym read.answer ∙ ap outcome_of c.in-Pass.is in
     peg_reply_lem _ passes read.line _ _ (c.peg_numbers.ensures.answer, c.peg_numbers.ensures.memory)) in
     record {
@@ -19,7 +19,7 @@ returns-in-Pass c =
 pub returns-in-Refused : goal.returns-in-Refused
 returns-in-Refused c =
     let met = (
-      let refusal = sym c.read-read.ensures.answer ∙ ap outcome_of c.in-Refused.is in
+    let refusal = sym c.read-read.ensures.answer ∙ ap outcome_of c.in-Refused.is in
     refused_peg _ _ _ refusal) in
     record {
       result_value = met.0;
