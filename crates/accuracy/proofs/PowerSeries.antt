@@ -89,6 +89,7 @@ module _ (divisor exponent : ℕ → ℕ) (steps : (j : ℕ) → exponent (suc j
 
     -- The divisors of the terms after the eighth: each of these is at most half of the one before.
     later : (i : ℕ) → 7 ≤ i → 12 ≤ divisor (suc i)
+    later zero h = elim h [ ]
     later (suc i) h = rw (divides (suc i), steps i) (mul-le-mul {n₁ = 3} {m₁ = 4} (omega arith) (omega arith))
 
     -- The eighth term is at most the 160th part of the seventh; T is room for it and all further ones.

@@ -1,0 +1,21 @@
+-- `check_stations`: each turn adds a station to those in range. Assumes nothing.
+use mathlib.Core.Path.{◌≡◌, refl, sym, ◌∙◌, ap}
+use Prim.Native.Nat.{ℕ, suc, ◌-◌, ◌≤◌}
+use native.Mathlib.Numerals.{add-one}
+use native.Mathlib.Omega.{arith}
+use borrow.Author.Rules.{rules}
+use borrow.Author.Tests.{le-leb, lt-leb}
+use lib.ListN.{get_or}
+use Rattle.refusals.specs.Outcomes.{passed, first_of}
+use Rattle.refusals.specs.Order.{in_turn, outcome}
+use Rattle.profile.specs.Vertices.{station_of}
+use Rattle.profile.specs.Checks.{station_check}
+use Rattle.heights.specs.Parts.{with_stations}
+use Rattle.heights.proofs.Passes.{one_holds, one_fails}
+use Rattle.heights.proofs.checks.check_stations.Given as goal
+
+abbrev pub invariant-loop-i : goal.invariant-loop-i
+invariant-loop-i l = (l.i ≤ l.n) × (outcome (in_turn (station_check (with_stations l.start l.stations)) (suc l.i)) ≡ passed)
+
+abbrev pub decreases-loop-i : goal.decreases-loop-i
+decreases-loop-i l = l.n - l.i

@@ -1,0 +1,14 @@
+-- `stopping_distance`: the table passes the test of its rule, document 001's formula at each speed. Assumes nothing.
+use mathlib.Core.Path.{refl}
+use mathlib.Core.List.{[], ◌∷◌}
+use borrow.Author.Rules.{rules}
+use Rattle.numbers.specs.Fractions.{whole, ◌⊕◌, ◌⊗◌, ◌⊘◌, ◌↑◌, over, ratio}
+use Rattle.line.specs.Speeds.{under_speed}
+use Rattle.line.proofs.SpeedTables.{tabled}
+use Rattle.sight.specs.Formulas.{stopping, rounded_up, stopping_distance}
+use Rattle.heights.proofs.stopping.stopping_distance.Goals as goal
+
+pub returns : goal.returns
+unfolding whole ◌⊕◌ ◌⊗◌ ◌⊘◌ ◌↑◌ over ratio under_speed stopping rounded_up stopping_distance
+returns c =
+    tabled stopping_distance 310 (45 ∷ 64 ∷ 85 ∷ 111 ∷ 140 ∷ 173 ∷ 211 ∷ 267 ∷ 310 ∷ []) refl refl _ _ c.requires.0 c.requires.1 c.requires.2 refl

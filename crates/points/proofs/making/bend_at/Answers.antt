@@ -1,0 +1,22 @@
+-- `bend_at`: the products are those of the two legs at the PI. Assumes nothing.
+use mathlib.Core.Path.{◌∙◌, ap}
+use native.Mathlib.Numerals.{add-one}
+use native.Mathlib.Omega.{arith}
+use lib.IntN.{pos}
+use lib.Signed.{lt_z}
+use Rattle.coordinates.specs.Legs.{leg_at, cross_of, dot_of}
+use Rattle.points.specs.Steps.{seconds_of}
+use Rattle.signed.proofs.Sizes.{held}
+use borrow.Author.Rules.{rules}
+use Rattle.points.proofs.making.bend_at.Goals as goal
+
+pub returns : goal.returns
+returns c =
+    let points = c.args.points.now in
+    let into = c.leg-into.ensures.0 in
+    let out = c.leg-out.ensures.0 ∙ ap (leg_at points) (add-one c.args.i) in
+    let cross = c.cross-across in
+    let dot = c.dot-along in
+    let across = held cross.result (omega (arith, cross.ensures.1)) ∙ cross.ensures.0 ∙ (λ j. cross_of (into j) (out j)) in
+    let along = held dot.result (omega (arith, dot.ensures.1)) ∙ dot.ensures.0 ∙ (λ j. dot_of (into j) (out j)) in
+    (ap (lt_z (pos 0)) across, c.seconds.ensures ∙ (λ j. seconds_of (across j) (along j)))
