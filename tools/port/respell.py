@@ -59,7 +59,7 @@ def edit_text(text):
 
 
 def page_text(text):
-    return SPAN.sub(lambda m: words(m.group(), ALL), text)
+    return SPAN.sub(lambda m: "`" + words(m.group()[1:-1], ALL) + "`", text)
 
 
 def turn(pattern, change):
