@@ -2,7 +2,7 @@
  * sheet in its other edition (document 02), a line from the coordinates of its points, the elements of one curve, the unit spiral table
  * and X and Y from it, the height of a profile at a station.
  *
- * Link target/staticlib/libpokyandi.a, which `rt staticlib pokyandi` makes for Linux on x86-64. There is no state; any number of
+ * Link target/staticlib/libpokyandi.a, which `tools/build` makes for Linux on x86-64. There is no state; any number of
  * threads may call at once. A call allocates nothing and takes at most POKYANDI_STACK_BYTES of stack.
  *
  * Memory is the caller's. A buffer is a pointer and the number of its entries; the pointer may be null only where that number is 0.

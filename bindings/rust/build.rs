@@ -1,5 +1,5 @@
 //! Finds the static library `libpokyandi.a`: in the folder that the variable
-//! POKYANDI_LIBRARY names, else where `rt staticlib pokyandi` writes it.
+//! POKYANDI_LIBRARY names, else where `tools/build` writes it.
 
 use std::env;
 use std::path::PathBuf;
@@ -14,7 +14,7 @@ fn main() {
     println!("cargo:rerun-if-changed={}", archive.display());
     if !archive.is_file() {
         eprintln!(
-            "{} is missing: run `rt staticlib pokyandi` at the top of the repository,",
+            "{} is missing: run `tools/build` at the top of the repository,",
             archive.display()
         );
         eprintln!("or name the folder that holds libpokyandi.a in POKYANDI_LIBRARY");

@@ -16,7 +16,7 @@ HERE = os.path.dirname(os.path.realpath(__file__))
 NAME = re.compile(r'(?<![^\s(){}.;,@"«»:?])[^\s(){}.;,@"«»:?]+')
 # What Rattle calls its goals in proof files of a function.
 GOAL = re.compile(r"(?:tie|goal)\.\S+|Need-\S+")
-SPAN = re.compile(r"`[^`\n/]+`")
+SPAN = re.compile(r"`[^`\n]+`")
 
 
 def rows(name):
@@ -59,7 +59,12 @@ def edit_text(text):
 
 
 def page_text(text):
-    return SPAN.sub(lambda m: words(m.group(), ALL), text)
+    def span(match):
+        inner = match.group()[1:-1]
+        # What has a slash is a path.
+        return match.group() if "/" in inner else "`" + words(inner, ALL) + "`"
+
+    return SPAN.sub(span, text)
 
 
 def turn(pattern, change):

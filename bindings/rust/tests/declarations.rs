@@ -209,9 +209,9 @@ fn texts_of(folder: &str) -> String {
 
 #[test]
 fn the_declarations_are_those_of_the_rattle_source() {
-    let rattle = texts_of("crates/pokyandi/src");
-    let marked = rattle.matches("#[no_mangle]\npub extern \"C\" fn ").count();
-    assert_eq!(marked, rattle_calls(&rattle).len(), "each has #[no_mangle]");
+    let rattle = texts_of("crates/pokyandi_c/src");
+    let marked = rattle.matches("#[unsafe(no_mangle)]\npub extern \"C\" fn ").count();
+    assert_eq!(marked, rattle_calls(&rattle).len(), "each has #[unsafe(no_mangle)]");
     let header = text_of(&from_top("include/pokyandi.h"));
     let found = all_differences(&rattle, &header, &texts_of("bindings/rust/src"));
     assert!(found.is_empty(), "\n{}", found.join("\n"));
@@ -219,7 +219,7 @@ fn the_declarations_are_those_of_the_rattle_source() {
 
 const RATTLE: &str = r#"
 // pub extern "C" fn pokyandi_comment() -> u64
-#[no_mangle]
+#[unsafe(no_mangle)]
 pub extern "C" fn pokyandi_fill(sheet: &[u8], row: &mut [u64]) -> u64
     ensures answer { anything (of it) }
 {

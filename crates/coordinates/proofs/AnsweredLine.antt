@@ -18,7 +18,7 @@ use Rattle.refusals.proofs.Joining.{passed_left, passed_right, need_holds}
 use Rattle.refusals.proofs.InTurn.{each_passes}
 use Rattle.line.specs.declared.Curve.{Curve}
 use Rattle.line.specs.Checks.{blank_curve, curve_at, distance_at}
-use Rattle.line.specs.Entries.{entries, cleared}
+use Rattle.line.specs.Entries.{cleared}
 use Rattle.line.proofs.Entries.{entries_same}
 use Rattle.arithmetic.proofs.Largest.{root_within}
 use Rattle.turns.specs.Turn.{reached, deflection_of, LastReached}

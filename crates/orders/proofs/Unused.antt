@@ -15,7 +15,7 @@ use Rattle.line.specs.Ranges.{AlikeWhereUsed}
 use Rattle.line.proofs.Unused.{unused_ignored}
 use Rattle.stationing.proofs.StraightSteps.{after_inside, after_end}
 use Rattle.stationing.specs.Stations.{spiral_at, arc_at, tangent_at, tangent_before, tangent_after, straight_at, points_at, former_st, end_of, curve_stations, stations_of, station_row}
-use Rattle.stationing.specs.LineElements.{straight_element, spiral_in_element, arc_element, spiral_out_element, elements_from, elements_of}
+use Rattle.stationing.specs.LineElements.{elements_from, elements_of}
 use Rattle.stationing.specs.Answer.{design_checks_at, straight_check, alignment_checks, stations_in}
 
 module _ (l m : Line) (alike : AlikeWhereUsed l m) where

@@ -8,7 +8,9 @@ pub(crate) fn put(text: &mut [u8], at: usize, piece: &[u8]) -> usize
     requires { at + length piece.now ≤ length text.old }
     ensures { Wrote text.old text.new at result piece.now }
 {
-    at + bytes::copy(piece, &mut text[at..])
+    let end = at + piece.len();
+    text[at..end].copy_from_slice(piece);
+    end
 }
 
 // How many digits a number has.

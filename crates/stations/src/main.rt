@@ -3,40 +3,40 @@
 #![tactic(auto)]
 
 ghost use Rattle.std.specs.Prelude.{◌≤◌, length};
+ghost use Rattle.std.specs.Io.{ReadsAtMost};
 
-use libc::{STDIN_FILENO, STDOUT_FILENO};
+use std::io;
+use std::io::Read;
 
-// Reads until sheet is full or the input ends, and answers how many bytes it put at the start of sheet, or -1 where a read fails.
-fn read_sheet(sheet: &mut [u8]) -> isize
+// Reads until sheet is full or the input ends, and answers how many bytes it put at the start of sheet, or why a read failed.
+fn read_sheet(input: &mut impl Read, sheet: &mut [u8]) -> io::Result<usize>
     requires { length sheet.old ≤ 707 }
+    ensures { ReadsAtMost result sheet.new }
 {
     let mut size = 0;
     while size < sheet.len() {
-        let got = libc::read(STDIN_FILENO, &mut sheet[size..]);
-        if got < 0 {
-            return -1;
-        }
-        let more = io::count(got, sheet);
+        let more = input.read(&mut sheet[size..])?;
         if more == 0 {
-            return size as isize;
+            return Ok(size);
         }
         size += more;
     }
-    size as isize
+    Ok(size)
 }
 
-fn main() {
+fn main(rt: HostRuntime) {
     let mut sheet = [0u8; 707];
-    let got = read_sheet(&mut sheet);
-    if got < 0 {
-        os::fail(b"stations: standard input");
-        return;
-    }
-    let size = io::count(got, &sheet);
+    let size = match read_sheet(&mut rt.stdin(), &mut sheet) {
+        Ok(size) => size,
+        Err(error) => {
+            failures::fail(&rt, "stations: standard input", error);
+            return;
+        }
+    };
     let report = station_report::whole_report(&sheet[..size]);
     let text = report.text;
     let length = report.length;
-    if !io::write_all(STDOUT_FILENO, &text[..length]) {
-        os::fail(b"stations: standard output");
+    if let Err(error) = rt.write_all(&text[..length]) {
+        failures::fail(&rt, "stations: standard output", error);
     }
 }

@@ -4,7 +4,7 @@ use Prim.Native.Nat.{ℕ, zero, suc, ◌+◌, ◌*◌}
 use native.Mathlib.Omega.{arith}
 use lib.ListN.{length}
 use Rattle.line.specs.declared.Line.{Line}
-use Rattle.stationing.specs.LineElements.{Element, elements_from, elements_of}
+use Rattle.stationing.specs.LineElements.{elements_from, elements_of}
 use Rattle.totals.specs.Totals.{is_straight, is_spiral, is_arc, of_kind}
 
 pub record Counts (line : Line) : Type 0 where

@@ -1,7 +1,7 @@
 -- The totals of document 01's cases 1, 3 and 9, of a line from 1 m whose second curve has no spirals, from the greatest start, and of 64 curves,
 -- from the definitions. Assumes nothing.
 use mathlib.Core.Path.{◌≡◌, refl}
-use mathlib.Core.Bool.{true, false}
+use mathlib.Core.Bool.{true}
 use mathlib.Core.List.{[], ◌∷◌}
 use Prim.Native.Nat.{ℕ}
 use lib.IntN.{pos}

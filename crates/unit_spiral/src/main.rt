@@ -6,7 +6,6 @@ ghost use Rattle.std.specs.Prelude.{◌≡◌};
 ghost use Rattle.report.specs.Text.{table_text};
 ghost use Rattle.spiral_table.specs.UnitSpiralTable.{unit_spiral_table};
 
-use libc::STDOUT_FILENO;
 use spiral_table::TABLE_NUMBERS;
 
 // So many bytes the text has (`proofs/PrintedText.antt`).
@@ -23,9 +22,9 @@ fn printed() -> [u8; BYTES]
     text
 }
 
-fn main() {
+fn main(rt: HostRuntime) {
     let text = printed();
-    if !io::write_all(STDOUT_FILENO, &text) {
-        os::fail(b"unit_spiral: standard output");
+    if let Err(error) = rt.write_all(&text) {
+        failures::fail(&rt, "unit_spiral: standard output", error);
     }
 }

@@ -1,7 +1,6 @@
 -- `check_asked`: the code joins its verdicts as the definition does. Assumes nothing.
 use mathlib.Core.Path.{◌∙◌, ap}
 use Prim.Native.Nat.{ℕ}
-use borrow.Author.Rules.{rules}
 use lib.Dec.{leb, eqb}
 use Rattle.refusals.specs.Outcomes.{need}
 use Rattle.refusals.proofs.Joining.{join}

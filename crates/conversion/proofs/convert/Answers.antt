@@ -3,7 +3,6 @@ use mathlib.Core.Path.{◌≡◌, sym, ◌∙◌, ap}
 use mathlib.Core.List.{List}
 use Prim.Native.Nat.{ℕ}
 use lib.ListN.{take}
-use borrow.Author.Rules.{rules}
 use Rattle.refusals.specs.Outcomes.{Outcome, passed, refused, outcome_of, ◌▹◌}
 use Rattle.refusals.specs.Order.{outcome}
 use Rattle.refusals.specs.Filling.{FillReply, filled, unfilled}
@@ -51,7 +50,7 @@ promised sheet octets asked bytes told =
 pub returns-in-Pass : goal.returns-in-Pass
 returns-in-Pass c =
     let met = (
-      let a = c.args in
+    let a = c.args in
     let read = c.read-read.ensures in
     let all = checked a.sheet.now a.edition c.first-verdict.ensures read.answer read.edition read.line c.check_asked-asked.ensures in
     let passes = sym all ∙ ap outcome_of c.in-Pass.is in
@@ -66,7 +65,7 @@ returns-in-Pass c =
 pub returns-in-Refused : goal.returns-in-Refused
 returns-in-Refused c =
     let met = (
-      let a = c.args in
+    let a = c.args in
     let read = c.read-read.ensures in
     let all = checked a.sheet.now a.edition c.first-verdict.ensures read.answer read.edition read.line c.check_asked-asked.ensures in
     promised a.sheet.now (λ i. (c.shared_slice_known-1.given i).fits) a.edition a.bytes.now

@@ -5,7 +5,6 @@ use borrow.Author.Tests.{le-leb, lt-leb}
 use Rattle.refusals.proofs.Replied.{passed_reply, refused_reply}
 use Rattle.elements.specs.WorkingRule.{scaled_length}
 use Rattle.spiral_table.specs.LookUp.{end_by, look_up_checks, look_up_reply}
-use borrow.Author.Rules.{rules}
 use Rattle.spiral_table.proofs.look_up.Goals as goal
 
 pub returns-then-thousandth-gt500 : goal.returns-then-thousandth-gt500

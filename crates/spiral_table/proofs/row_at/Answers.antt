@@ -5,7 +5,6 @@ use Prim.Native.Nat.{ℕ, ◌+◌, ◌*◌}
 use lib.IntN.{pos}
 use lib.ListN.{get_or}
 use Rattle.spiral_table.proofs.EachEntry.{x_of_row, y_of_row}
-use borrow.Author.Rules.{rules}
 use Rattle.spiral_table.proofs.row_at.Goals as goal
 
 pub returns : goal.returns

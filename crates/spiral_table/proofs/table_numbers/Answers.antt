@@ -1,15 +1,14 @@
 -- `table_numbers` copies the table. Assumes nothing.
 use mathlib.Core.Path.{◌≡◌, refl, sym, ◌∙◌, ap}
 use mathlib.Core.List.{List, ◌++◌}
-use Prim.Native.Nat.{ℕ, ◌-◌, ◌≤◌}
+use Prim.Native.Nat.{ℕ}
 use native.Mathlib.Numerals.{add-one}
 use native.Mathlib.Omega.{arith}
-use lib.ListN.{length, take, drop, get_or, set, length-set}
+use lib.ListN.{take, drop, get_or, set, length-set}
 use lib.Seq.{take_all}
 use Rattle.numbers.proofs.Stores.{one_stored}
 use Rattle.refusals.specs.Order.{unchecked}
 use Rattle.refusals.proofs.FillWays.{small_fill, whole_fill}
-use borrow.Author.Rules.{rules}
 use Rattle.spiral_table.specs.UnitSpiralTable.{unit_spiral_table, table_in}
 use Rattle.spiral_table.proofs.EachEntry.{table_length}
 use Rattle.spiral_table.proofs.table_numbers.Goals as goal
@@ -48,7 +47,7 @@ pub returns : goal.returns
 unfolding table_in
 returns c =
     let met = (
-      let loop = c.loop-k in
+    let loop = c.loop-k in
     let lent = c.args.ratios.now in
     let all : loop.k ≡ 1002 = omega (arith, loop.invariant.0, c.loop-k-test.false) in
     whole_fill unchecked unit_spiral_table lent refl table_length (omega (arith, c.if-ratios-lt-TABLE_NUMBERS.false))

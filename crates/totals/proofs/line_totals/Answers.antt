@@ -6,7 +6,6 @@ use Rattle.refusals.proofs.Replied.{passed_reply, refused_reply}
 use Rattle.stationing.specs.Answer.{alignment_checks}
 use Rattle.calculator.specs.Lengths.{lengths_by, lengths_after}
 use Rattle.totals.specs.Totals.{totals_by, totals_reply}
-use borrow.Author.Rules.{rules}
 use Rattle.totals.proofs.line_totals.Goals as goal
 
 pub add_up-requires : goal.add_up-requires
@@ -23,7 +22,7 @@ pub returns-in-Refused : goal.returns-in-Refused
 unfolding totals_reply
 returns-in-Refused c =
     let met = (
-      let line = c.args.line in
+    let line = c.args.line in
     refused_reply (alignment_checks line) (totals_by line) (sym c.line_lengths-lengths.ensures.verdict ∙ ap outcome_of c.in-Refused.is)) in
     record {
       answer = met;
@@ -33,7 +32,7 @@ pub returns-in-Pass : goal.returns-in-Pass
 unfolding totals_reply
 returns-in-Pass c =
     let met = (
-      let line = c.args.line in
+    let line = c.args.line in
     passed_reply (alignment_checks line) (totals_by line) (sym c.line_lengths-lengths.ensures.verdict ∙ ap outcome_of c.in-Pass.is) c.add_up.ensures) in
     record {
       answer = met;

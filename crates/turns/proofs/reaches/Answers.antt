@@ -1,7 +1,6 @@
 -- `reaches`: the products of the sine and the cosine are those of the definition. Assumes nothing.
 use Rattle.elements.proofs.TurnAngles.{turn_within}
 use Rattle.turns.proofs.Seconds.{reached_by}
-use Rattle.std.proofs.Common.{rules}
 use Rattle.turns.proofs.reaches.Goals as goal
 
 pub returns : goal.returns

@@ -1,6 +1,5 @@
 -- `search`: the bounds close in on the turn. Assumes nothing.
-use Rattle.std.proofs.Common.{◌-◌, sym, ◌∙◌, arith, rules}
-use Rattle.turns.specs.Search.{Bracket}
+use Rattle.std.proofs.Common.{sym, ◌∙◌, arith}
 use Rattle.turns.proofs.Bounds.{bracketed, from_reached, to_not_reached}
 use Rattle.turns.proofs.search.Goals as goal
 

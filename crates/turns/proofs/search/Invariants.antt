@@ -1,7 +1,6 @@
 -- `search`: the bounds close in on the turn. Assumes nothing.
-use Rattle.std.proofs.Common.{◌-◌, sym, ◌∙◌, arith, rules}
+use Rattle.std.proofs.Common.{◌-◌}
 use Rattle.turns.specs.Search.{Bracket}
-use Rattle.turns.proofs.Bounds.{bracketed, from_reached, to_not_reached}
 use Rattle.turns.proofs.search.Given as goal
 
 abbrev pub invariant-loop-low : goal.invariant-loop-low

@@ -1,6 +1,5 @@
 -- `second_of`: the two tests are what the rounding to a whole number asks. Assumes nothing.
 use lib.Ieee.{of_bits, neg}
-use Rattle.std.proofs.Common.{rules}
 use Rattle.turns.proofs.second_of.Goals as goal
 
 pub truncating_f64_to_u64-second-requires : goal.truncating_f64_to_u64-second-requires

@@ -1,5 +1,5 @@
 -- `turn`: the tests beside the guess are bounds of the search. Assumes nothing.
-use Rattle.std.proofs.Common.{sym, ◌∙◌, arith, rules}
+use Rattle.std.proofs.Common.{sym, ◌∙◌, arith}
 use Rattle.turns.proofs.Bounds.{widest, from_reached, to_not_reached}
 use Rattle.turns.proofs.turn.Goals as goal
 

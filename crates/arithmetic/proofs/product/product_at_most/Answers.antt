@@ -1,5 +1,4 @@
 -- `product_at_most`: two products in two parts are in the order of their parts. Assumes nothing.
-use borrow.Author.Rules.{rules}
 use Rattle.arithmetic.proofs.Parts.{order_by_low, order_by_high}
 use Rattle.arithmetic.proofs.product.product_at_most.Goals as goal
 

@@ -1,10 +1,9 @@
 -- `curve_lengths`: the loop keeps that the first i curves pass, with their tangents and arcs. Assumes nothing.
 use mathlib.Core.Path.{◌≡◌, refl, sym, ◌∙◌, ap, subst}
-use Prim.Native.Nat.{ℕ, ◌-◌, ◌≤◌}
+use Prim.Native.Nat.{ℕ}
 use native.Mathlib.Omega.{arith}
 use borrow.Author.Rules.{rules}
-use Rattle.refusals.specs.declared.Verdict.TheVariants.{Pass}
-use Rattle.refusals.specs.Outcomes.{passed, first_of, outcome_of}
+use Rattle.refusals.specs.Outcomes.{first_of, outcome_of}
 use Rattle.refusals.specs.Order.{in_turn, outcome}
 use Rattle.refusals.proofs.Joining.{not_both}
 use Rattle.line.specs.Checks.{curve_at}

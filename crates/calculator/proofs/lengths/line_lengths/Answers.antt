@@ -7,7 +7,6 @@ use Rattle.line.specs.Checks.{line_checks}
 use Rattle.line.proofs.InRange.{line_in_range}
 use Rattle.stationing.specs.Answer.{design_checks_at, straight_check, alignment_checks}
 use Rattle.calculator.proofs.LengthsKnown.{first_lengths, second_lengths}
-use borrow.Author.Rules.{rules}
 use Rattle.calculator.proofs.lengths.line_lengths.Goals as goal
 
 pub returns-in_default : goal.returns-in_default

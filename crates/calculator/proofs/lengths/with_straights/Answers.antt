@@ -1,13 +1,11 @@
 -- `with_straights`: the loop keeps that the first i straights are long enough, with their lengths, and the tangent before the next.
 -- Assumes nothing.
 use mathlib.Core.Path.{◌≡◌, refl, sym, ◌∙◌, ap, subst}
-use Prim.Native.Nat.{ℕ, suc, ◌+◌, ◌-◌, ◌≤◌}
+use Prim.Native.Nat.{ℕ, suc, ◌≤◌}
 use native.Mathlib.Omega.{arith}
-use lib.IntN.{pos}
 use borrow.Author.Rules.{rules}
 use Rattle.numbers.proofs.Ranges.{at_most}
-use Rattle.refusals.specs.declared.Verdict.TheVariants.{Pass}
-use Rattle.refusals.specs.Outcomes.{passed, first_of, outcome_of}
+use Rattle.refusals.specs.Outcomes.{first_of, outcome_of}
 use Rattle.refusals.specs.Order.{in_turn, outcome}
 use Rattle.refusals.proofs.InTurn.{one_more, first_refused}
 use Rattle.stationing.specs.Stations.{tangent_before}

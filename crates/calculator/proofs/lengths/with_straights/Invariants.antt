@@ -1,22 +1,14 @@
 -- `with_straights`: the loop keeps that the first i straights are long enough, with their lengths, and the tangent before the next.
 -- Assumes nothing.
-use mathlib.Core.Path.{◌≡◌, refl, sym, ◌∙◌, ap, subst}
-use Prim.Native.Nat.{ℕ, suc, ◌+◌, ◌-◌, ◌≤◌}
-use native.Mathlib.Omega.{arith}
+use mathlib.Core.Path.{◌≡◌}
+use Prim.Native.Nat.{◌+◌, ◌-◌, ◌≤◌}
 use lib.IntN.{pos}
-use borrow.Author.Rules.{rules}
-use Rattle.numbers.proofs.Ranges.{at_most}
 use Rattle.refusals.specs.declared.Verdict.TheVariants.{Pass}
-use Rattle.refusals.specs.Outcomes.{passed, first_of, outcome_of}
+use Rattle.refusals.specs.Outcomes.{passed}
 use Rattle.refusals.specs.Order.{in_turn, outcome}
-use Rattle.refusals.proofs.InTurn.{one_more, first_refused}
 use Rattle.stationing.specs.Stations.{tangent_before}
 use Rattle.stationing.specs.Answer.{straight_check}
-use Rattle.stationing.specs.Arrays.{ArcsTo, StraightsTo}
-use Rattle.stationing.proofs.Accepted.{before_between, after_between}
-use Rattle.stationing.proofs.Fronts.{front_empty, front_more}
-use Rattle.stationing.proofs.StraightSteps.{after_distance, before_next, short_straight, long_straight, straight_length}
-use Rattle.calculator.proofs.LengthsKnown.{refused_lengths, whole_lengths}
+use Rattle.stationing.specs.Arrays.{StraightsTo}
 use Rattle.calculator.proofs.lengths.with_straights.Given as goal
 
 abbrev pub invariant-loop-i : goal.invariant-loop-i

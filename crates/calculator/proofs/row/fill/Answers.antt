@@ -1,10 +1,9 @@
 -- `fill`: 16, or the loop keeps the row of the first i curves with the rest as it was, and the ST before the next. Assumes nothing.
 use mathlib.Core.Path.{◌≡◌, refl, ◌∙◌, ap}
 use mathlib.Core.List.{◌++◌}
-use Prim.Native.Nat.{ℕ, ◌+◌, ◌-◌, ◌*◌, ◌≤◌}
+use Prim.Native.Nat.{ℕ, ◌*◌}
 use native.Mathlib.Omega.{arith}
-use lib.IntN.{pos}
-use lib.ListN.{length, drop}
+use lib.ListN.{drop}
 use borrow.Author.Rules.{rules}
 use Rattle.numbers.proofs.Ranges.{at_most}
 use Rattle.refusals.specs.Order.{unchecked}
@@ -99,7 +98,7 @@ overflow_add-row c =
 pub returns : goal.returns
 returns c =
     let met = (
-      let loop = c.loop-i in
+    let loop = c.loop-i in
     let line = c.args.line in
     let all : loop.i ≡ line.count = omega arith in
     whole_fill unchecked (station_row line) c.args.row.now refl (row_count line) loop.invariant.2 (

@@ -6,7 +6,6 @@ use Rattle.refusals.proofs.FillWays.{refused_fill, refill}
 use Rattle.stationing.specs.Stations.{station_row}
 use Rattle.stationing.specs.Answer.{alignment_checks, stations_in}
 use Rattle.calculator.specs.Lengths.{lengths_by, lengths_after}
-use borrow.Author.Rules.{rules}
 use Rattle.calculator.proofs.row.stations.Goals as goal
 
 pub fill-requires : goal.fill-requires
@@ -23,7 +22,7 @@ pub returns-in-Refused : goal.returns-in-Refused
 unfolding stations_in
 returns-in-Refused c =
     let met = (
-      let lengths = c.line_lengths-lengths.ensures in
+    let lengths = c.line_lengths-lengths.ensures in
     refused_fill (alignment_checks c.args.line) (station_row c.args.line) c.args.row.now (sym lengths.verdict ∙ ap outcome_of c.in-Refused.is)) in
     record {
       answer = met.0;
@@ -34,7 +33,7 @@ pub returns-in-Pass : goal.returns-in-Pass
 unfolding stations_in
 returns-in-Pass c =
     let met = (
-      let lengths = c.line_lengths-lengths.ensures in
+    let lengths = c.line_lengths-lengths.ensures in
     let line = c.args.line in
     let checked = sym (ap outcome_of c.in-Pass.is) ∙ lengths.verdict in
     refill unchecked (alignment_checks line) (station_row line) (station_row line) c.args.row.now checked refl (c.fill.ensures.result_value, c.fill.ensures.row_after)) in

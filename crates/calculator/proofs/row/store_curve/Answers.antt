@@ -3,7 +3,6 @@ use mathlib.Core.Path.{refl}
 use native.Mathlib.Omega.{arith}
 use lib.ListN.{length-set}
 use Rattle.numbers.proofs.Stores.{four_stored}
-use borrow.Author.Rules.{rules}
 use Rattle.calculator.proofs.row.store_curve.Goals as goal
 
 pub bounds-row-at-2 : goal.bounds-row-at-2

@@ -1,7 +1,6 @@
 -- `check_least`: the two verdicts joined. Assumes nothing.
 use mathlib.Core.Path.{◌∙◌}
 use Rattle.refusals.proofs.Joining.{join, tested}
-use borrow.Author.Rules.{rules}
 use Rattle.calculator.proofs.tables.check_least.Goals as goal
 
 pub returns : goal.returns

@@ -3,7 +3,6 @@ use mathlib.Core.Path.{refl}
 use Rattle.stationing.specs.RoadTables.{frictions, friction_at}
 use Rattle.line.specs.Speeds.{under_speed}
 use Rattle.line.proofs.SpeedTables.{tabled}
-use borrow.Author.Rules.{rules}
 use Rattle.calculator.proofs.tables.friction.Goals as goal
 
 pub returns : goal.returns

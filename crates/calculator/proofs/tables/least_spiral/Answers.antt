@@ -3,7 +3,6 @@ use mathlib.Core.Path.{refl}
 use Rattle.stationing.specs.RoadTables.{least_spirals, least_spiral_at}
 use Rattle.line.specs.Speeds.{under_speed}
 use Rattle.line.proofs.SpeedTables.{tabled}
-use borrow.Author.Rules.{rules}
 use Rattle.calculator.proofs.tables.least_spiral.Goals as goal
 
 pub returns : goal.returns

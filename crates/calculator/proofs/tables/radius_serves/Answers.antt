@@ -5,7 +5,6 @@ use native.Mathlib.Nat.{mul-le-mul}
 use native.Mathlib.Omega.{arith}
 use lib.Dec.{leb}
 use Rattle.stationing.specs.RoadTables.{radius_serves}
-use borrow.Author.Rules.{rules}
 use Rattle.calculator.proofs.tables.radius_serves.Goals as goal
 
 pub overflow_mul-result : goal.overflow_mul-result

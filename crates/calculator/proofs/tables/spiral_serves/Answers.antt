@@ -2,7 +2,6 @@
 use native.Mathlib.Nat.{mul-le-mul}
 use native.Mathlib.Omega.{arith}
 use Rattle.stationing.proofs.LeastSpiral.{no_spiral, below_table, at_table}
-use borrow.Author.Rules.{rules}
 use Rattle.calculator.proofs.tables.spiral_serves.Goals as goal
 
 pub returns-then-spiral-eq0 : goal.returns-then-spiral-eq0

@@ -6,7 +6,6 @@ use native.Mathlib.Omega.{arith}
 use Rattle.elements.specs.WorkingRule.{scale}
 use Rattle.elements.specs.SpiralPoint.{angle_to}
 use Rattle.elements.proofs.SpiralPoints.{square_most, angle_most}
-use borrow.Author.Rules.{rules}
 use Rattle.elements.proofs.point.angle_to.Goals as goal
 
 pub overflow_mul-result : goal.overflow_mul-result

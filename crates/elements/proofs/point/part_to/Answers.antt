@@ -2,7 +2,6 @@
 use mathlib.Core.Path.{refl}
 use Rattle.elements.specs.SpiralPoint.{part_to}
 use Rattle.elements.proofs.SpiralPoints.{part_most}
-use borrow.Author.Rules.{rules}
 use Rattle.elements.proofs.point.part_to.Goals as goal
 
 pub returns : goal.returns

@@ -6,7 +6,6 @@ use native.Mathlib.Nat.{mul-le-mul}
 use native.Mathlib.Omega.{arith}
 use Rattle.elements.specs.WorkingRule.{scale, rounded, unit_x, unit_y}
 use Rattle.elements.specs.SpiralPoint.{offset_x, offset_y, offsets_by}
-use borrow.Author.Rules.{rules}
 use Rattle.elements.proofs.point.point_at.Goals as goal
 
 -- A length of the spiral in µm times a ratio.

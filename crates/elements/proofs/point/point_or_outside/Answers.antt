@@ -4,7 +4,6 @@ use borrow.Author.Tests.{le-leb, lt-leb}
 use Rattle.refusals.proofs.Replied.{passed_reply, refused_reply}
 use Rattle.elements.specs.SpiralPoint.{offsets_by, inside_check}
 use Rattle.elements.proofs.SpiralPoints.{at_outer_end}
-use borrow.Author.Rules.{rules}
 use Rattle.elements.proofs.point.point_or_outside.Goals as goal
 
 pub returns-then-spiral-length : goal.returns-then-spiral-length

@@ -5,7 +5,6 @@ use Rattle.refusals.proofs.Replied.{first_refused, first_passed}
 use Rattle.line.specs.Checks.{curve_checks}
 use Rattle.line.proofs.InRange.{curve_in_range}
 use Rattle.elements.specs.SpiralPoint.{offsets_by, inside_check, point_checks, point_reply}
-use borrow.Author.Rules.{rules}
 use Rattle.elements.proofs.point.spiral_point.Goals as goal
 
 pub point_or_outside-requires : goal.point_or_outside-requires

@@ -5,7 +5,6 @@ use Rattle.refusals.proofs.Replied.{first_refused, first_passed}
 use Rattle.line.specs.Checks.{curve_checks}
 use Rattle.line.proofs.InRange.{curve_in_range}
 use Rattle.elements.specs.Answer.{values_by, arc_check, element_checks, element_reply}
-use borrow.Author.Rules.{rules}
 use Rattle.elements.proofs.rule.curve_elements.Goals as goal
 
 pub elements_or_short-requires : goal.elements_or_short-requires

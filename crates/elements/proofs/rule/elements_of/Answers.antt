@@ -9,7 +9,6 @@ use native.Mathlib.Omega.{arith}
 use Rattle.numbers.proofs.Ranges.{at_most}
 use Rattle.elements.proofs.Bounds.{bounds}
 use Rattle.elements.proofs.Computed.{computed_tt, computed_values}
-use borrow.Author.Rules.{rules}
 use Rattle.elements.proofs.rule.elements_of.Goals as goal
 
 product_most : {A R L p tan : ℕ} → CurveInRange A R L → pos p ≡ shift_of R L → tan ≤ 2318405749 → (1000 * R + p) * tan ≤ 5083333333 * 2318405749

@@ -4,7 +4,6 @@ use native.Mathlib.Omega.{arith}
 use Rattle.refusals.proofs.Replied.{passed_reply, refused_reply}
 use Rattle.elements.specs.Answer.{values_by, arc_check}
 use Rattle.elements.proofs.Arc.{computed_d, short_arc_lem, long_arc}
-use borrow.Author.Rules.{rules}
 use Rattle.elements.proofs.rule.elements_or_short.Goals as goal
 
 pub returns-then-turn-spirals : goal.returns-then-turn-spirals

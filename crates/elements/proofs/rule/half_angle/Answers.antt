@@ -2,7 +2,6 @@
 use mathlib.Core.Path.{refl}
 use Rattle.elements.specs.WorkingRule.{half_angle}
 use Rattle.elements.proofs.Bounds.{half_angle_most}
-use borrow.Author.Rules.{rules}
 use Rattle.elements.proofs.rule.half_angle.Goals as goal
 
 pub returns : goal.returns

@@ -4,7 +4,6 @@ use native.Mathlib.Omega.{arith}
 use lib.IntN.{◌-ℤ◌}
 use Rattle.numbers.proofs.Differences.{minus_le}
 use Rattle.elements.proofs.Rounding.{rounded_keeps_order}
-use borrow.Author.Rules.{rules}
 use Rattle.elements.proofs.rule.offset_of.Goals as goal
 
 pub overflow_sub-result : goal.overflow_sub-result

@@ -1,6 +1,5 @@
 -- `round`: the sum fits, and the machine's quotient is the rule's rounding. Assumes nothing.
 use Rattle.elements.proofs.Rounding.{half_added}
-use borrow.Author.Rules.{rules}
 use Rattle.elements.proofs.rule.round.Goals as goal
 
 pub returns : goal.returns

@@ -2,7 +2,6 @@
 use mathlib.Core.Path.{refl}
 use Rattle.elements.specs.WorkingRule.{spiral_angle}
 use Rattle.elements.proofs.Bounds.{spiral_angle_most}
-use borrow.Author.Rules.{rules}
 use Rattle.elements.proofs.rule.spiral_angle.Goals as goal
 
 pub returns : goal.returns

@@ -2,7 +2,6 @@
 use Rattle.numbers.proofs.Ranges.{at_most}
 use Rattle.elements.proofs.Bounds.{tan_between}
 use Rattle.elements.proofs.Computed.{computed_tan}
-use borrow.Author.Rules.{rules}
 use Rattle.elements.proofs.rule.tan_half.Goals as goal
 
 pub returns : goal.returns

@@ -1,7 +1,6 @@
 -- `unit_x`: t2, t4 and t6 are the definition's, and nothing falls below zero. Assumes nothing.
 use Rattle.numbers.proofs.Ranges.{at_most}
 use Rattle.elements.proofs.UnitSpiral.{computed_x, unit_x_between}
-use borrow.Author.Rules.{rules}
 use Rattle.elements.proofs.rule.unit_x.Goals as goal
 
 pub returns : goal.returns

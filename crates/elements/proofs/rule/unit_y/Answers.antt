@@ -1,7 +1,6 @@
 -- `unit_y`: t2, t3, t4 and t5 are the definition's, and nothing falls below zero. Assumes nothing.
 use Rattle.numbers.proofs.Ranges.{at_most}
 use Rattle.elements.proofs.UnitSpiral.{computed_y, unit_y_between}
-use borrow.Author.Rules.{rules}
 use Rattle.elements.proofs.rule.unit_y.Goals as goal
 
 pub returns : goal.returns

@@ -6,7 +6,6 @@ use lib.IntN.{pos}
 use Rattle.numbers.proofs.Ranges.{at_least, at_most}
 use Rattle.elements.specs.WorkingRule.{scale, term, alternating, cosine_of, cosine_divisor}
 use Rattle.elements.proofs.SineAndCosine.{greatest_turn_angle, cosine_above}
-use borrow.Author.Rules.{rules}
 use Rattle.elements.proofs.series.cosine.Goals as goal
 
 pub returns : goal.returns

@@ -3,7 +3,6 @@ use mathlib.Core.Path.{refl}
 use native.Mathlib.Nat.{mul-le-mul}
 use native.Mathlib.Omega.{arith}
 use Rattle.elements.proofs.SineAndCosine.{next_falls}
-use borrow.Author.Rules.{rules}
 use Rattle.elements.proofs.series.next_term.Goals as goal
 
 pub overflow_mul-result : goal.overflow_mul-result

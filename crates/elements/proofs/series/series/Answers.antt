@@ -1,6 +1,5 @@
 -- `series`: the terms fall, so the sum of seven never goes below zero and is the definition's. Assumes nothing.
 use Rattle.elements.proofs.SineAndCosine.{computed_series}
-use borrow.Author.Rules.{rules}
 use Rattle.elements.proofs.series.series.Goals as goal
 
 pub returns : goal.returns

@@ -5,7 +5,6 @@ use lib.IntN.{pos}
 use Rattle.numbers.proofs.Ranges.{at_most}
 use Rattle.elements.specs.WorkingRule.{term, alternating, sine_of, sine_divisor}
 use Rattle.elements.proofs.SineAndCosine.{sine_between}
-use borrow.Author.Rules.{rules}
 use Rattle.elements.proofs.series.sine.Goals as goal
 
 pub returns : goal.returns

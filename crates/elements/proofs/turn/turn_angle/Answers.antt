@@ -2,7 +2,6 @@
 use mathlib.Core.Path.{sym, ◌∙◌}
 use native.Mathlib.Omega.{arith}
 use Rattle.elements.proofs.TurnAngles.{turn_within, turn_beyond, turn_angle_most}
-use borrow.Author.Rules.{rules}
 use Rattle.elements.proofs.turn.turn_angle.Goals as goal
 
 pub returns-then-seconds-le-GREATEST_TURN : goal.returns-then-seconds-le-GREATEST_TURN

@@ -1,7 +1,6 @@
 -- `turn_ratios`: the sine and the cosine of the angle of the turn, which fit 32 bits. Assumes nothing.
 use mathlib.Core.Path.{◌∙◌, ap}
 use Rattle.elements.specs.WorkingRule.{sine_of, cosine_of}
-use borrow.Author.Rules.{rules}
 use Rattle.elements.proofs.turn.turn_ratios.Goals as goal
 
 pub returns : goal.returns

@@ -1,11 +1,10 @@
 -- `check_lengths`: each turn adds a curve that fits behind the end of the one before it. Assumes nothing.
 use mathlib.Core.Path.{◌≡◌, refl, sym, ◌∙◌, ap}
 use mathlib.Core.List.{List}
-use Prim.Native.Nat.{ℕ, suc, ◌-◌, ◌≤◌}
+use Prim.Native.Nat.{ℕ, suc, ◌≤◌}
 use native.Mathlib.Numerals.{add-one}
 use native.Mathlib.Omega.{arith}
-use borrow.Author.Rules.{rules}
-use borrow.Author.Tests.{not-true, not-false, leb-true}
+use borrow.Author.Tests.{leb-true}
 use lib.ListN.{get_or}
 use Rattle.refusals.specs.Outcomes.{passed, first_of}
 use Rattle.refusals.specs.Order.{in_turn, outcome}

@@ -1,6 +1,5 @@
 -- `check_profile`: the verdicts one after the other are the definition's checks. Assumes nothing.
 use mathlib.Core.Path.{sym, ◌∙◌, ap}
-use borrow.Author.Rules.{rules}
 use Rattle.refusals.specs.Outcomes.{outcome_of}
 use Rattle.refusals.proofs.Joining.{refused_first, passed_first}
 use Rattle.profile.specs.Checks.{profile_checks}

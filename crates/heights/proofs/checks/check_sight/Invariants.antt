@@ -1,21 +1,10 @@
 -- `check_sight`: each turn adds a curve that is long enough. Assumes nothing.
-use mathlib.Core.Path.{◌≡◌, refl, sym, ◌∙◌, ap}
-use Prim.Native.Nat.{ℕ, suc, ◌-◌, ◌≤◌, ◌<◌}
-use native.Mathlib.Numerals.{add-one}
-use native.Mathlib.Omega.{arith}
-use borrow.Author.Rules.{rules}
-use borrow.Author.Tests.{not-true, not-false}
-use lib.IntN.{pos}
-use lib.ListN.{get_or}
-use mir.Syntax.{w64}
-use mir.Val.{to_z}
-use Rattle.refusals.specs.Outcomes.{passed, first_of}
+use mathlib.Core.Path.{◌≡◌}
+use Prim.Native.Nat.{◌-◌, ◌≤◌}
+use Rattle.refusals.specs.Outcomes.{passed}
 use Rattle.refusals.specs.Order.{in_turn, outcome}
-use Rattle.signed.proofs.Sizes.{held}
-use Rattle.sight.specs.Sight.{sight_serves}
-use Rattle.profile.specs.Vertices.{grade_of, length_of}
+use Rattle.profile.specs.Vertices.{grade_of}
 use Rattle.profile.specs.Checks.{sight_check}
-use Rattle.heights.proofs.Passes.{one_holds, one_fails}
 use Rattle.heights.proofs.checks.check_sight.Given as goal
 
 abbrev pub invariant-loop-i : goal.invariant-loop-i

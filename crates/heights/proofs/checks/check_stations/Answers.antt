@@ -1,12 +1,11 @@
 -- `check_stations`: each turn adds a station to those in range. Assumes nothing.
 use mathlib.Core.Path.{◌≡◌, refl, sym, ◌∙◌, ap}
-use Prim.Native.Nat.{ℕ, suc, ◌-◌, ◌≤◌}
+use Prim.Native.Nat.{ℕ, suc}
 use native.Mathlib.Numerals.{add-one}
 use native.Mathlib.Omega.{arith}
-use borrow.Author.Rules.{rules}
 use borrow.Author.Tests.{le-leb, lt-leb}
 use lib.ListN.{get_or}
-use Rattle.refusals.specs.Outcomes.{passed, first_of}
+use Rattle.refusals.specs.Outcomes.{first_of}
 use Rattle.refusals.specs.Order.{in_turn, outcome}
 use Rattle.profile.specs.Vertices.{station_of}
 use Rattle.profile.specs.Checks.{station_check}

@@ -1,17 +1,10 @@
 -- `check_stations`: each turn adds a station to those in range. Assumes nothing.
-use mathlib.Core.Path.{◌≡◌, refl, sym, ◌∙◌, ap}
-use Prim.Native.Nat.{ℕ, suc, ◌-◌, ◌≤◌}
-use native.Mathlib.Numerals.{add-one}
-use native.Mathlib.Omega.{arith}
-use borrow.Author.Rules.{rules}
-use borrow.Author.Tests.{le-leb, lt-leb}
-use lib.ListN.{get_or}
-use Rattle.refusals.specs.Outcomes.{passed, first_of}
+use mathlib.Core.Path.{◌≡◌}
+use Prim.Native.Nat.{suc, ◌-◌, ◌≤◌}
+use Rattle.refusals.specs.Outcomes.{passed}
 use Rattle.refusals.specs.Order.{in_turn, outcome}
-use Rattle.profile.specs.Vertices.{station_of}
 use Rattle.profile.specs.Checks.{station_check}
 use Rattle.heights.specs.Parts.{with_stations}
-use Rattle.heights.proofs.Passes.{one_holds, one_fails}
 use Rattle.heights.proofs.checks.check_stations.Given as goal
 
 abbrev pub invariant-loop-i : goal.invariant-loop-i

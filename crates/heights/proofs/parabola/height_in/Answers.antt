@@ -1,7 +1,6 @@
 -- `height_in`: the definition by two floors, whose parts fit. Assumes nothing.
 use mathlib.Core.Path.{sym, ◌∙◌, ap}
 use native.Mathlib.Omega.{arith}
-use borrow.Author.Rules.{rules}
 use lib.IntN.{ℤ, ◌+ℤ◌}
 use mir.Facts.{to_z-of_z}
 use Rattle.numbers.specs.Whole.{down}

@@ -1,6 +1,5 @@
 -- `height_on`: the definition. Assumes nothing.
 use mathlib.Core.Path.{◌∙◌, ap}
-use borrow.Author.Rules.{rules}
 use lib.IntN.{ℤ}
 use mir.Facts.{to_z-of_z}
 use Rattle.numbers.specs.Whole.{down}

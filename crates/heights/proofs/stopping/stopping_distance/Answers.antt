@@ -1,7 +1,6 @@
 -- `stopping_distance`: the table passes the test of its rule, document 001's formula at each speed. Assumes nothing.
 use mathlib.Core.Path.{refl}
 use mathlib.Core.List.{[], ◌∷◌}
-use borrow.Author.Rules.{rules}
 use Rattle.numbers.specs.Fractions.{whole, ◌⊕◌, ◌⊗◌, ◌⊘◌, ◌↑◌, over, ratio}
 use Rattle.line.specs.Speeds.{under_speed}
 use Rattle.line.proofs.SpeedTables.{tabled}

@@ -1,13 +1,10 @@
 -- `height_along`: after i vertices the locals are height, grade and station of vertex i, and the answer is the one from vertex i on. Assumes nothing.
 use mathlib.Core.Path.{◌≡◌, refl, sym, ◌∙◌, ap}
-use Prim.Native.Nat.{ℕ, suc, ◌-◌, ◌≤◌, ◌<◌}
+use Prim.Native.Nat.{ℕ, suc, ◌-◌, ◌<◌}
 use native.Mathlib.Numerals.{add-one}
 use native.Mathlib.Omega.{arith}
-use borrow.Author.Rules.{rules}
 use lib.IntN.{pos}
 use lib.ListN.{get_or}
-use mir.Syntax.{w64}
-use mir.Val.{to_z}
 use Rattle.signed.proofs.Sizes.{held, kept}
 use Rattle.grades.specs.Heights.{along_grade, height_on}
 use Rattle.profile.specs.Vertices.{station_of, grade_of, length_of, end_of, height_of}

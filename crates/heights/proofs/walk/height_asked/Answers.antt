@@ -1,6 +1,5 @@
 -- `height_asked`: a station before the start or beyond 200,000,000 is outside. Assumes nothing.
 use native.Mathlib.Omega.{arith}
-use borrow.Author.Rules.{rules}
 use borrow.Author.Tests.{le-leb, lt-leb}
 use Rattle.signed.proofs.Sizes.{kept}
 use Rattle.refusals.proofs.Replied.{passed_reply, refused_reply}

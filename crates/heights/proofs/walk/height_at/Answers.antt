@@ -1,6 +1,5 @@
 -- `height_at`: a refusal of the profile is handed on; where there is none, 17 decides. Assumes nothing.
 use mathlib.Core.Path.{sym, ◌∙◌, ap}
-use borrow.Author.Rules.{rules}
 use Rattle.refusals.specs.Outcomes.{outcome_of}
 use Rattle.refusals.specs.Order.{outcome}
 use Rattle.refusals.proofs.Joining.{passed_left}
@@ -20,7 +19,7 @@ pub returns-in-Refused : goal.returns-in-Refused
 unfolding height_reply height_checks
 returns-in-Refused c =
     let met = (
-      let a = c.args in
+    let a = c.args in
     first_refused (profile_checks a.profile) (asked_check a.profile a.station) (height_by a.profile a.station)
     (sym c.check_profile-verdict.ensures ∙ ap outcome_of c.in-Refused.is)) in
     record {
@@ -31,7 +30,7 @@ pub returns-in-Pass : goal.returns-in-Pass
 unfolding height_reply height_checks
 returns-in-Pass c =
     let met = (
-      let a = c.args in
+    let a = c.args in
     c.height_asked.ensures
     ∙ first_passed (profile_checks a.profile) (asked_check a.profile a.station) (height_by a.profile a.station)
     (sym c.check_profile-verdict.ensures ∙ ap outcome_of c.in-Pass.is)) in

@@ -1,12 +1,9 @@
 -- `check_body`: each turn adds a curve and the distance after it to those that pass, and a refusal ends the loop. Assumes nothing.
-use mathlib.Core.Path.{◌≡◌, sym, ◌∙◌, ap}
-use Prim.Native.Nat.{ℕ, ◌+◌, ◌-◌, ◌≤◌}
-use native.Mathlib.Omega.{arith}
-use borrow.Author.Rules.{rules}
-use Rattle.refusals.specs.Outcomes.{passed, outcome_of}
+use mathlib.Core.Path.{◌≡◌}
+use Prim.Native.Nat.{◌-◌, ◌≤◌}
+use Rattle.refusals.specs.Outcomes.{passed}
 use Rattle.refusals.specs.Order.{outcome}
 use Rattle.line.specs.Checks.{body_checks}
-use Rattle.line.proofs.Walk.{body_step, body_refused}
 use Rattle.line.proofs.checks.check_body.Given as goal
 
 abbrev pub invariant-loop-i : goal.invariant-loop-i

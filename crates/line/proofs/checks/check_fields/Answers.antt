@@ -4,7 +4,6 @@ use Rattle.refusals.specs.Outcomes.{outcome_of}
 use Rattle.line.specs.Checks.{field_checks}
 use Rattle.refusals.proofs.Joining.{refused_first, passed_first}
 use Rattle.line.proofs.InRange.{few_curves}
-use borrow.Author.Rules.{rules}
 use Rattle.line.proofs.checks.check_fields.Goals as goal
 
 pub returns-in_default : goal.returns-in_default

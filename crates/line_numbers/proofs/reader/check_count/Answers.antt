@@ -8,7 +8,6 @@ use borrow.Author.Tests.{le-leb, lt-leb}
 use Rattle.refusals.specs.Outcomes.{refused}
 use Rattle.refusals.specs.Order.{outcome}
 use Rattle.line_numbers.specs.Numbers.{number_at, count_check}
-use borrow.Author.Rules.{rules}
 use Rattle.line_numbers.proofs.reader.check_count.Goals as goal
 
 none_refused : (numbers : List ℕ) → length numbers < 1 → refused 3 0 ≡ outcome (count_check numbers)

@@ -1,6 +1,5 @@
 -- `curve_of`: each number by its index. Assumes nothing.
 use Rattle.line_numbers.specs.Numbers.{curve_of}
-use borrow.Author.Rules.{rules}
 use Rattle.line_numbers.proofs.reader.curve_of.Goals as goal
 
 pub returns : goal.returns

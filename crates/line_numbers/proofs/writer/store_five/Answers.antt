@@ -4,7 +4,6 @@ use native.Mathlib.Omega.{arith}
 use mathlib.Core.List.{[], ◌∷◌}
 use lib.ListN.{length-set}
 use lib.Seq.{sets-eq}
-use borrow.Author.Rules.{rules}
 use Rattle.line_numbers.proofs.writer.store_five.Goals as goal
 
 pub bounds-numbers-at-2 : goal.bounds-numbers-at-2

@@ -1,8 +1,8 @@
 -- `store_line`: the loop keeps the numbers of the head and the first i entries, with the rest as it was. Assumes nothing.
 use mathlib.Core.Path.{◌≡◌, refl, ◌∙◌, ap}
 use mathlib.Core.List.{◌++◌}
-use Prim.Native.Nat.{ℕ, ◌-◌, ◌≤◌}
-use lib.ListN.{length, drop}
+use Prim.Native.Nat.{ℕ}
+use lib.ListN.{drop}
 use borrow.Author.Rules.{rules}
 use Rattle.line_numbers.specs.Numbers.{number_count, numbers_to}
 use Rattle.line_numbers.proofs.Storing.{head_stored, entry_stored, line_stored}

@@ -1,11 +1,9 @@
 -- `store_line`: the loop keeps the numbers of the head and the first i entries, with the rest as it was. Assumes nothing.
-use mathlib.Core.Path.{◌≡◌, refl, ◌∙◌, ap}
+use mathlib.Core.Path.{◌≡◌}
 use mathlib.Core.List.{◌++◌}
-use Prim.Native.Nat.{ℕ, ◌-◌, ◌≤◌}
+use Prim.Native.Nat.{◌-◌, ◌≤◌}
 use lib.ListN.{length, drop}
-use borrow.Author.Rules.{rules}
 use Rattle.line_numbers.specs.Numbers.{number_count, numbers_to}
-use Rattle.line_numbers.proofs.Storing.{head_stored, entry_stored, line_stored}
 use Rattle.line_numbers.proofs.writer.store_line.Given as goal
 
 abbrev pub invariant-loop-i : goal.invariant-loop-i

@@ -3,7 +3,6 @@ use mathlib.Core.Path.{sym, ap}
 use lib.IntN.{pos}
 use Rattle.stationing.specs.declared.ElementKind.{ElementKind}
 use Rattle.pegs.specs.Numbers.{kind_number}
-use borrow.Author.Rules.{rules}
 use Rattle.pegs.proofs.stored.kind_number.Goals as goal
 
 pub returns-in-Straight : goal.returns-in-Straight

@@ -10,7 +10,6 @@ use Rattle.pegs.proofs.Sides.{small_held}
 use Rattle.refusals.proofs.FillWays.{small_fill, whole_fill}
 use Rattle.pegs.specs.Pegs.{values_of}
 use Rattle.pegs.specs.Numbers.{peg_numbers}
-use borrow.Author.Rules.{rules}
 use Rattle.pegs.proofs.stored.store_peg.Goals as goal
 
 pub returns-then-numbers-lt5 : goal.returns-then-numbers-lt5

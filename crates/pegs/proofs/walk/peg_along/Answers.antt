@@ -1,6 +1,6 @@
 -- `peg_along`: the loop keeps that the element is among those from distance i on, which begin where the rest does. Assumes nothing.
 use mathlib.Core.Path.{◌≡◌, ◌∙◌, ap, subst, transport}
-use Prim.Native.Nat.{ℕ, suc, ◌+◌, ◌-◌, ◌≤◌, ◌<◌}
+use Prim.Native.Nat.{ℕ, suc, ◌+◌, ◌-◌, ◌<◌}
 use Rattle.refusals.specs.Replying.{answered}
 use native.Mathlib.Omega.{arith}
 use borrow.Author.Rules.{rules}

@@ -1,13 +1,6 @@
 -- `peg_along`: the loop keeps that the element is among those from distance i on, which begin where the rest does. Assumes nothing.
-use mathlib.Core.Path.{◌≡◌, ◌∙◌, ap, subst, transport}
-use Prim.Native.Nat.{ℕ, suc, ◌+◌, ◌-◌, ◌≤◌, ◌<◌}
-use Rattle.refusals.specs.Replying.{answered}
-use native.Mathlib.Omega.{arith}
-use borrow.Author.Rules.{rules}
-use Rattle.numbers.proofs.Ranges.{at_most}
-use Rattle.stationing.proofs.Accepted.{accepted, few}
-use Rattle.calculator.proofs.LengthsKnown.{known_straight, known_arc}
-use Rattle.pegs.proofs.Walking.{Reached, from_start, at_straight, at_curve, at_next, at_last, at_beyond}
+use Prim.Native.Nat.{◌-◌, ◌≤◌}
+use Rattle.pegs.proofs.Walking.{Reached}
 use Rattle.pegs.proofs.walk.peg_along.Given as goal
 
 abbrev pub invariant-loop-i : goal.invariant-loop-i

@@ -6,7 +6,6 @@ use Rattle.refusals.proofs.Replied.{first_refused, first_passed}
 use Rattle.stationing.specs.Answer.{alignment_checks}
 use Rattle.calculator.specs.Lengths.{lengths_by, lengths_after}
 use Rattle.pegs.specs.Pegs.{along_line, station_check, peg_by, peg_checks, peg_reply}
-use borrow.Author.Rules.{rules}
 use Rattle.pegs.proofs.walk.peg_at.Goals as goal
 
 pub peg_from_start-requires : goal.peg_from_start-requires
@@ -23,7 +22,7 @@ pub returns-in-Refused : goal.returns-in-Refused
 unfolding peg_reply peg_checks
 returns-in-Refused c =
     let met = (
-      let start = c.args in
+    let start = c.args in
     let along = along_line start.line start.station in
     first_refused (alignment_checks start.line) (station_check start.line along) (peg_by start.line along)
     (sym c.line_lengths-lengths.ensures.verdict ∙ ap outcome_of c.in-Refused.is)) in
@@ -35,7 +34,7 @@ pub returns-in-Pass : goal.returns-in-Pass
 unfolding peg_reply peg_checks
 returns-in-Pass c =
     let met = (
-      let start = c.args in
+    let start = c.args in
     let along = along_line start.line start.station in
     c.peg_from_start.ensures
     ∙ first_passed (alignment_checks start.line) (station_check start.line along) (peg_by start.line along)

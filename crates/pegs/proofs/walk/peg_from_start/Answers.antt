@@ -1,12 +1,10 @@
 -- `peg_from_start`: a station before the start is outside; behind it, the length from the start decides. Assumes nothing.
 use mathlib.Core.Path.{sym, ◌∙◌, ap}
 use lib.IntN.{ℤ}
-use Prim.Native.Nat.{◌-◌}
 use Rattle.numbers.proofs.Differences.{minus_le, minus_lt}
 use Rattle.refusals.specs.Replying.{reply}
 use Rattle.refusals.proofs.Replied.{refused_reply}
 use Rattle.pegs.specs.Pegs.{along_line, station_check, peg_by}
-use borrow.Author.Rules.{rules}
 use Rattle.pegs.proofs.walk.peg_from_start.Goals as goal
 
 pub returns-then-station-start : goal.returns-then-station-start

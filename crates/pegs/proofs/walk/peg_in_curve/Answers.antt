@@ -3,7 +3,6 @@ use mathlib.Core.Path.{ap}
 use borrow.Author.Tests.{lt-ltb, le-ltb}
 use Rattle.refusals.specs.Replying.{answered}
 use Rattle.pegs.specs.Steps.{peg_in_curve}
-use borrow.Author.Rules.{rules}
 use Rattle.pegs.proofs.walk.peg_in_curve.Goals as goal
 
 pub returns-then-inside-spiral : goal.returns-then-inside-spiral

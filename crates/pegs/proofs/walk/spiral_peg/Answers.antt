@@ -3,7 +3,6 @@ use mathlib.Core.Path.{sym, ◌∙◌, ap}
 use mir.Facts.{to_z-of_z}
 use Rattle.elements.specs.SpiralPoint.{point_reply_of}
 use Rattle.elements.proofs.SpiralPoints.{never_refused, found_offsets}
-use borrow.Author.Rules.{rules}
 use Rattle.pegs.proofs.walk.spiral_peg.Goals as goal
 
 pub returns-in_default : goal.returns-in_default

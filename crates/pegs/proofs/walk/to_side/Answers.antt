@@ -4,7 +4,6 @@ use lib.IntN.{pos}
 use mathlib.Core.Bool.{Bool}
 use Rattle.pegs.specs.Pegs.{sided}
 use Rattle.pegs.proofs.Sides.{to_right, left_fits, to_left}
-use borrow.Author.Rules.{rules}
 use Rattle.pegs.proofs.walk.to_side.Goals as goal
 
 pub overflow_sub-result : goal.overflow_sub-result

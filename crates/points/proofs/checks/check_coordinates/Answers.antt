@@ -1,15 +1,14 @@
 -- `check_coordinates`: each turn adds a coordinate to those in range. Assumes nothing.
 use mathlib.Core.Path.{◌≡◌, refl, sym, ◌∙◌, ap}
-use Prim.Native.Nat.{ℕ, ◌-◌, ◌≤◌}
+use Prim.Native.Nat.{ℕ}
 use native.Mathlib.Omega.{arith}
 use lib.ListN.{length}
 use borrow.Author.Rules.{rules}
-use borrow.Author.Tests.{not-true, not-false}
 use mathlib.Core.Bool.{Bool}
 use mir.Syntax.{w64}
 use mir.Val.{SFits}
 use mir.Facts.{to_z-of_z}
-use Rattle.refusals.specs.Outcomes.{passed, need, first_of}
+use Rattle.refusals.specs.Outcomes.{need, first_of}
 use Rattle.refusals.specs.Order.{in_turn, outcome}
 use Rattle.refusals.proofs.InTurn.{one_more, first_refused}
 use Rattle.coordinates.specs.Legs.{coordinate_at}

@@ -2,7 +2,6 @@
 use mathlib.Core.Path.{◌∙◌}
 use native.Mathlib.Omega.{arith}
 use Rattle.coordinates.proofs.Counts.{counts_refused, counts_decided}
-use borrow.Author.Rules.{rules}
 use Rattle.points.proofs.checks.check_counts.Goals as goal
 
 pub returns-then-numbers-lt4 : goal.returns-then-numbers-lt4

@@ -5,7 +5,6 @@ use native.Mathlib.Omega.{arith}
 use Rattle.coordinates.specs.Legs.{cross_of}
 use Rattle.signed.proofs.Sizes.{held}
 use Rattle.points.proofs.Sizes.{product_held}
-use borrow.Author.Rules.{rules}
 use Rattle.points.proofs.legs.cross.Goals as goal
 
 pub minus-requires : goal.minus-requires

@@ -5,7 +5,6 @@ use native.Mathlib.Omega.{arith}
 use Rattle.arithmetic.specs.Largest.{root_of}
 use Rattle.coordinates.specs.Legs.{length_of}
 use Rattle.points.proofs.Sizes.{side, root_fits}
-use borrow.Author.Rules.{rules}
 use Rattle.points.proofs.legs.distance.Goals as goal
 
 pub overflow_mul-east : goal.overflow_mul-east

@@ -5,7 +5,6 @@ use native.Mathlib.Omega.{arith}
 use Rattle.coordinates.specs.Legs.{dot_of}
 use Rattle.signed.proofs.Sizes.{held}
 use Rattle.points.proofs.Sizes.{product_held}
-use borrow.Author.Rules.{rules}
 use Rattle.points.proofs.legs.dot.Goals as goal
 
 pub plus-requires : goal.plus-requires

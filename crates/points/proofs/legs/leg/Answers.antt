@@ -1,7 +1,6 @@
 -- `leg`: a step to the east and one to the north. Assumes nothing.
 use native.Mathlib.Omega.{arith}
 use Rattle.signed.proofs.Sizes.{held}
-use borrow.Author.Rules.{rules}
 use Rattle.points.proofs.legs.leg.Goals as goal
 
 pub returns : goal.returns

@@ -3,7 +3,6 @@ use Prim.Native.Nat.{◌+◌}
 use native.Mathlib.Omega.{arith}
 use Rattle.coordinates.specs.Legs.{coordinate_at}
 use Rattle.signed.proofs.Sizes.{held}
-use borrow.Author.Rules.{rules}
 use Rattle.points.proofs.legs.step.Goals as goal
 
 pub minus-requires : goal.minus-requires

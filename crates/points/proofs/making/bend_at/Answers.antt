@@ -7,7 +7,6 @@ use lib.Signed.{lt_z}
 use Rattle.coordinates.specs.Legs.{leg_at, cross_of, dot_of}
 use Rattle.points.specs.Steps.{seconds_of}
 use Rattle.signed.proofs.Sizes.{held}
-use borrow.Author.Rules.{rules}
 use Rattle.points.proofs.making.bend_at.Goals as goal
 
 pub returns : goal.returns

@@ -1,7 +1,6 @@
 -- `check_turn`: 20 before 19. Assumes nothing.
 use mathlib.Core.Path.{◌∙◌}
 use Rattle.refusals.proofs.Joining.{join}
-use borrow.Author.Rules.{rules}
 use Rattle.points.proofs.making.check_turn.Goals as goal
 
 pub returns : goal.returns

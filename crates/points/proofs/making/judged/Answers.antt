@@ -1,6 +1,5 @@
 -- `judged`: the calculator's verdict. Assumes nothing.
 use Rattle.points.proofs.MadeInTurn.{made_passed, made_refused}
-use borrow.Author.Rules.{rules}
 use Rattle.points.proofs.making.judged.Goals as goal
 
 pub returns-in-Pass : goal.returns-in-Pass

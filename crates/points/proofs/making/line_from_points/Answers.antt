@@ -5,7 +5,6 @@ use Rattle.coordinates.specs.FromPoints.{from_points_checks}
 use Rattle.points.specs.Steps.{MadeFrom}
 use Rattle.points.proofs.InReach.{usable}
 use Rattle.points.proofs.MadeInTurn.{first_refused, first_passed}
-use borrow.Author.Rules.{rules}
 use Rattle.points.proofs.making.line_from_points.Goals as goal
 
 pub returns-in_default : goal.returns-in_default

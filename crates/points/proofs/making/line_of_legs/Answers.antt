@@ -1,17 +1,17 @@
 -- `line_of_legs`: the first loop keeps that the first i distances are in range, the second that the first k turns pass, each with the line
 -- filled so far; then the calculator decides. Assumes nothing.
 use mathlib.Core.Path.{◌≡◌, refl, sym, ◌∙◌, ap, subst}
-use Prim.Native.Nat.{ℕ, suc, ◌-◌, ◌≤◌}
+use Prim.Native.Nat.{ℕ, suc}
 use native.Mathlib.Omega.{arith}
 use borrow.Author.Rules.{rules}
-use Rattle.refusals.specs.Outcomes.{passed, first_of, outcome_of}
+use Rattle.refusals.specs.Outcomes.{first_of, outcome_of}
 use Rattle.refusals.specs.Order.{in_turn, outcome}
 use Rattle.refusals.proofs.InTurn.{one_more}
 use Rattle.line.specs.declared.Line.{Line}
 use Rattle.stationing.specs.Answer.{alignment_checks}
 use Rattle.coordinates.specs.Legs.{curve_count, length_of}
 use Rattle.coordinates.specs.FromPoints.{length_check, turn_checks}
-use Rattle.points.specs.Steps.{Usable, Made}
+use Rattle.points.specs.Steps.{Made}
 use Rattle.points.proofs.Checked.{length_checked, turn_refused, curve_found}
 use Rattle.points.proofs.Filling.{line_to, line_begun, distance_set, curve_set, line_done}
 use Rattle.points.proofs.MadeInTurn.{refused_in_turn, first_passed}

@@ -7,7 +7,6 @@ use Rattle.numbers.proofs.Signs.{above_zero}
 use Rattle.turns.specs.Turn.{turn_or_wide}
 use Rattle.points.specs.Steps.{seconds_of}
 use Rattle.points.proofs.Checked.{above_or_not}
-use borrow.Author.Rules.{rules}
 use Rattle.points.proofs.making.seconds.Goals as goal
 
 pub returns-then-along-le0 : goal.returns-then-along-le0

@@ -1,7 +1,6 @@
 -- `height`: a height that is answered is stored; a refusal is handed on. Assumes nothing.
 use mathlib.Core.Path.{sym, ◌∙◌, ap}
 use mathlib.Core.List.{[], ◌∷◌}
-use borrow.Author.Rules.{rules}
 use lib.IntN.{ℤ}
 use Rattle.refusals.specs.Order.{unchecked}
 use Rattle.refusals.proofs.FillWays.{refused_fill, refill}
@@ -15,7 +14,7 @@ pub returns-in-Found : goal.returns-in-Found
 unfolding height_numbers
 returns-in-Found c =
     let met = (
-      let a = c.args in
+    let a = c.args in
     let numbers = a.profile.now in
     let checks = numbers_checks numbers a.station in
     let v = c.in-Found.found in
@@ -33,7 +32,7 @@ returns-in-Found c =
 pub returns-in-Refused : goal.returns-in-Refused
 returns-in-Refused c =
     let met = (
-      let a = c.args in
+    let a = c.args in
     let numbers = a.profile.now in
     let checks = numbers_checks numbers a.station in
     let told = sym (ap height_reply_of c.in-Refused.is) ∙ c.height_of-answer.ensures in

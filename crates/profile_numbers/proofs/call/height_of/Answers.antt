@@ -1,6 +1,5 @@
 -- `height_of`: refusal 3 of the count is the whole one; where it passes, the profile of the numbers decides. Assumes nothing.
 use mathlib.Core.Path.{sym, ◌∙◌, ap}
-use borrow.Author.Rules.{rules}
 use Rattle.refusals.specs.Outcomes.{outcome_of}
 use Rattle.refusals.proofs.Replied.{refused_reply, first_passed}
 use Rattle.profile.specs.declared.Profile.{Profile}

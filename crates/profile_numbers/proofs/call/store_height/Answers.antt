@@ -2,7 +2,6 @@
 use mathlib.Core.Path.{refl}
 use mathlib.Core.List.{[], ◌∷◌}
 use native.Mathlib.Omega.{arith}
-use borrow.Author.Rules.{rules}
 use lib.Seq.{sets-eq}
 use mir.Facts.{to_z-of_z}
 use Rattle.refusals.specs.Order.{unchecked}

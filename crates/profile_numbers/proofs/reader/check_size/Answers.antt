@@ -1,6 +1,5 @@
 -- `check_size`: one case for each way out. Assumes nothing.
 use mathlib.Core.Path.{◌∙◌}
-use borrow.Author.Rules.{rules}
 use Rattle.profile_numbers.proofs.Sizes.{no_head, too_many, counted}
 use Rattle.profile_numbers.proofs.reader.check_size.Goals as goal
 

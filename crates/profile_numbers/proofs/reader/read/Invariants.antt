@@ -1,15 +1,9 @@
 -- `read`: the loop keeps the profile filled up to vertex i. Assumes nothing.
-use mathlib.Core.Path.{◌≡◌, refl, ◌∙◌, ap}
+use mathlib.Core.Path.{◌≡◌}
 use Prim.Native.Nat.{◌+◌, ◌-◌, ◌*◌, ◌≤◌}
-use native.Mathlib.Omega.{arith}
-use borrow.Author.Rules.{rules}
 use lib.ListN.{length}
-use Rattle.signed.proofs.Sizes.{kept}
-use Rattle.profile_numbers.specs.Numbers.{vertex_count, unsigned}
-use Rattle.profile_numbers.proofs.Filling.{profile_to, profile_begun, profile_goes_on, profile_done}
-use Rattle.profile_numbers.proofs.reader.read.Reads as reads
-use Rattle.profile_numbers.proofs.reader.read.Lts as lts
-use Rattle.profile_numbers.proofs.reader.field_of.Reads as field-of-reads
+use Rattle.profile_numbers.specs.Numbers.{vertex_count}
+use Rattle.profile_numbers.proofs.Filling.{profile_to}
 use Rattle.profile_numbers.proofs.reader.read.Given as goal
 
 abbrev pub invariant-loop-i : goal.invariant-loop-i

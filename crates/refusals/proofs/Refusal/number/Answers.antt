@@ -1,5 +1,4 @@
 -- `number`: each arm names its variant's. Assumes nothing.
-use borrow.Author.Rules.{rules}
 use Rattle.refusals.proofs.Refusal.number.Goals as goal
 
 pub returns-in-Truncated : goal.returns-in-Truncated

@@ -1,5 +1,4 @@
 -- `place`: each arm names its variant's. Assumes nothing.
-use borrow.Author.Rules.{rules}
 use Rattle.refusals.proofs.Refusal.place.Goals as goal
 
 pub returns-in-Truncated : goal.returns-in-Truncated

@@ -1,6 +1,5 @@
 -- `bits_at` meets its contract. Assumes nothing.
 use native.Mathlib.Omega.{arith}
-use borrow.Author.Rules.{rules}
 use lib.Pow.{pow_pos}
 use Rattle.bits.proofs.Words.{word_field, power}
 use Rattle.sheet.proofs.fields.bits_at.Goals as goal

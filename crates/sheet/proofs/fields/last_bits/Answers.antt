@@ -1,6 +1,5 @@
 -- `last_bits` meets its contract. Assumes nothing.
 use native.Mathlib.Omega.{arith}
-use borrow.Author.Rules.{rules}
 use lib.Pow.{pow_pos}
 use Rattle.bits.proofs.Words.{last_field, power}
 use Rattle.sheet.proofs.fields.last_bits.Goals as goal

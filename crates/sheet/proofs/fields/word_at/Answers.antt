@@ -1,5 +1,4 @@
 -- `word_at` meets its contract. Assumes nothing.
-use borrow.Author.Rules.{rules}
 use Rattle.bits.proofs.Bytes.{four_more}
 use Rattle.sheet.proofs.fields.word_at.Goals as goal
 

@@ -1,6 +1,5 @@
 -- `byte_count` meets its contract. Assumes nothing.
 use native.Mathlib.Omega.{arith}
-use borrow.Author.Rules.{rules}
 use Rattle.sheet.proofs.layout.byte_count.Goals as goal
 
 pub returns : goal.returns

@@ -1,6 +1,5 @@
 -- `check_edition`: the one `must` is the definition's `need`. Assumes nothing.
 use mathlib.Core.Path.{◌∙◌, ap}
-use borrow.Author.Rules.{rules}
 use lib.Dec.{eqb}
 use Rattle.refusals.specs.Outcomes.{need}
 use Rattle.packed_sheet.specs.declared.Edition.{Edition}

@@ -1,7 +1,4 @@
 -- `join` meets its contract. Assumes nothing.
-use mathlib.Core.Path.{ap}
-use Prim.Native.Nat.{ℕ, ◌+◌}
-use borrow.Author.Rules.{rules}
 use Rattle.sheet.proofs.Pens.{joined_lt, joined_bits, joined_whole}
 use Rattle.sheet.proofs.pen.join.Goals as goal
 

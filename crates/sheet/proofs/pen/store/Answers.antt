@@ -1,5 +1,4 @@
 -- `store` meets its contract. Assumes nothing.
-use borrow.Author.Rules.{rules}
 use Rattle.packed_sheet.proofs.SoFar.{store_made}
 use Rattle.sheet.proofs.pen.store.Goals as goal
 

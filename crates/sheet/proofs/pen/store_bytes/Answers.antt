@@ -1,16 +1,12 @@
 -- `store_bytes` meets its contract: each turn stores the sheet's next byte, and the bits behind it are the sheet's still. Assumes nothing.
 use mathlib.Core.Path.{◌≡◌, refl, ◌∙◌}
-use Prim.Native.Nat.{◌+◌, ◌*◌, ◌/◌, ◌%◌, ◌^◌, ◌≤◌}
+use Prim.Native.Nat.{◌+◌, ◌/◌}
 use native.Mathlib.Numerals.{add-one}
 use native.Mathlib.Omega.{arith}
-use borrow.Author.Rules.{rules}
-use lib.ListN.{length}
-use Rattle.bits.specs.Bits.{bits_at}
 use Rattle.packed_sheet.specs.Writing.{sheet_of}
-use Rattle.packed_sheet.specs.EachStore.{Stores, none, more}
+use Rattle.packed_sheet.specs.EachStore.{none, more}
 use Rattle.packed_sheet.proofs.WaysOut.{sheet_bytes}
 use Rattle.packed_sheet.proofs.SoFar.{store_kept}
-use Rattle.sheet.specs.Pens.{Begun}
 use Rattle.sheet.proofs.Pens.{next_byte}
 use Rattle.sheet.proofs.pen.store_bytes.Goals as goal
 

@@ -2,7 +2,6 @@
 use mathlib.Core.Path.{◌≡◌, refl}
 use Prim.Native.Nat.{◌+◌, ◌/◌}
 use native.Mathlib.Omega.{arith}
-use borrow.Author.Rules.{rules}
 use Rattle.packed_sheet.proofs.SoFar.{stores_then}
 use Rattle.sheet.specs.Pens.{position}
 use Rattle.sheet.proofs.Pens.{begun_again}

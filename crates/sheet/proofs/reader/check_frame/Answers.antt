@@ -1,6 +1,5 @@
 -- `check_frame` meets its contract. Assumes nothing.
 use mathlib.Core.Path.{◌∙◌, ap}
-use borrow.Author.Rules.{rules}
 use Rattle.refusals.specs.Outcomes.{Outcome, outcome_of, ◌▹◌}
 use Rattle.packed_sheet.proofs.Frames.{framed_by, count_below}
 use Rattle.sheet.proofs.reader.check_frame.Goals as goal

@@ -1,6 +1,5 @@
 -- `check_size` meets its contract. Assumes nothing.
 use native.Mathlib.Omega.{arith}
-use borrow.Author.Rules.{rules}
 use Rattle.packed_sheet.proofs.Frames.{too_short, too_long, whole}
 use Rattle.sheet.proofs.reader.check_size.Goals as goal
 

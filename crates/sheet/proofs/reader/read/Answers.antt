@@ -49,7 +49,7 @@ module _ (s : List ℕ) (E : Edition) (same : E ≡ edition_of s) where
 pub returns-then-sheet-lt7 : goal.returns-then-sheet-lt7
 returns-then-sheet-lt7 c =
     let met = (
-      let s = c.args.sheet.now in
+    let s = c.args.sheet.now in
     let says = c.no_line.ensures in
     promised s (λ i. (c.shared_slice_known-1.given i).fits) _
     (ap outcome_of says.0 ∙ frame_refused (edition_of s) s (Refused Truncated) (no_head (edition_of s) s c.if-sheet-lt7.true) refl)
@@ -70,7 +70,7 @@ check_frame-frame-requires c = (own_handled _ _ c.read_edition-edition.ensures, 
 pub returns-in_default : goal.returns-in_default
 returns-in_default c =
     let met = (
-      let s = c.args.sheet.now in
+    let s = c.args.sheet.now in
     let told = c.in_default.is in
     let says = c.no_line-in_default.ensures in
     let frame = own_frame s _ c.read_edition-edition.ensures c.check_frame-frame.ensures in
@@ -91,7 +91,7 @@ read_line-line-requires c =
 pub returns-in_default-verdict : goal.returns-in_default-verdict
 returns-in_default-verdict c =
     let met = (
-      let s = c.args.sheet.now in
+    let s = c.args.sheet.now in
     let told = c.in_default-verdict.is in
     let says = c.no_line-in_default-verdict.ensures in
     let same = c.read_edition-edition.ensures in
@@ -110,7 +110,7 @@ returns-in_default-verdict c =
 pub returns : goal.returns
 returns c =
     let met = (
-      let s = c.args.sheet.now in
+    let s = c.args.sheet.now in
     let told = c.in-Pass-verdict.is in
     let same = c.read_edition-edition.ensures in
     let frame = own_frame s _ same c.check_frame-frame.ensures in

@@ -1,6 +1,5 @@
 -- `read_edition` meets its contract. Assumes nothing.
 use mathlib.Core.Path.{◌∙◌, ap}
-use borrow.Author.Rules.{rules}
 use Rattle.packed_sheet.specs.Layout.{numbered}
 use Rattle.packed_sheet.specs.Reading.{edition_of}
 use Rattle.sheet.proofs.reader.read_edition.Goals as goal

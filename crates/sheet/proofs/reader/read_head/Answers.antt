@@ -1,5 +1,4 @@
 -- `read_head` meets its contract. Assumes nothing.
-use borrow.Author.Rules.{rules}
 use Rattle.bits.specs.Bits.{values_at}
 use Rattle.packed_sheet.specs.Reading.{head_of}
 use Rattle.sheet.proofs.reader.read_head.Goals as goal

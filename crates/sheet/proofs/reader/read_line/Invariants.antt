@@ -1,14 +1,10 @@
 -- `read_line` meets its contract: after i turns the first i distances and curves are filled in. Assumes nothing.
-use mathlib.Core.Path.{◌≡◌, ◌∙◌, ap}
-use Prim.Native.Nat.{ℕ, ◌-◌, ◌*◌, ◌≤◌}
-use native.Mathlib.Omega.{arith}
-use borrow.Author.Rules.{rules}
+use mathlib.Core.Path.{◌≡◌}
+use Prim.Native.Nat.{◌-◌, ◌*◌, ◌≤◌}
 use lib.ListN.{length}
-use Rattle.packed_sheet.specs.declared.Head.{Head}
 use Rattle.packed_sheet.specs.Layout.{bit_count}
 use Rattle.packed_sheet.specs.Reading.{count_of}
-use Rattle.packed_sheet.proofs.Frames.{framed}
-use Rattle.packed_sheet.proofs.LineSteps.{line_to, line_begun, entry_read, last_read}
+use Rattle.packed_sheet.proofs.LineSteps.{line_to}
 use Rattle.sheet.specs.Handled.{Handled}
 use Rattle.sheet.proofs.reader.read_line.Given as goal
 

@@ -1,6 +1,5 @@
 -- `check_told`: the code joins its verdicts as the definition does. Assumes nothing.
 use mathlib.Core.Path.{◌∙◌, ap}
-use borrow.Author.Rules.{rules}
 use Rattle.refusals.specs.Order.{outcome}
 use Rattle.refusals.proofs.Joining.{join}
 use Rattle.line.specs.Checks.{field_checks}

@@ -2,9 +2,7 @@
 use mathlib.Core.Path.{◌≡◌, sym, ◌∙◌}
 use Prim.Native.Nat.{ℕ, ◌+◌, ◌-◌, ◌*◌, ◌/◌, ◌^◌, ◌<◌}
 use native.Mathlib.Omega.{arith}
-use borrow.Author.Rules.{rules}
 use lib.Pow.{pow_pos}
-use Rattle.line.specs.Ranges.{FieldsInRange}
 use Rattle.line.proofs.InRange.{line_in_range}
 use Rattle.bits.specs.Bits.{bits_at}
 use Rattle.packed_sheet.specs.Layout.{distance_width, byte_count, fill_width}
@@ -16,7 +14,6 @@ use Rattle.packed_sheet.proofs.SoFar.{stores_then}
 use Rattle.sheet.specs.Pens.{position}
 use Rattle.sheet.proofs.Pens.{begun_again}
 use Rattle.sheet.proofs.writer.put_end.Goals as goal
-
 
 pub byte_count-requires : goal.byte_count-requires
 byte_count-requires c = omega (arith, (line_in_range c.args.line c.requires.handled.1).few)

@@ -1,6 +1,5 @@
 -- `size_bits` meets its contract. Assumes nothing.
 use native.Mathlib.Omega.{arith}
-use borrow.Author.Rules.{rules}
 use Rattle.bits.specs.Bits.{packed}
 use Rattle.sheet.proofs.writer.size_bits.Goals as goal
 

@@ -1,6 +1,5 @@
 -- `turn_bits` meets its contract. Assumes nothing.
 use native.Mathlib.Omega.{arith}
-use borrow.Author.Rules.{rules}
 use Rattle.bits.specs.Bits.{packed}
 use Rattle.sheet.proofs.writer.turn_bits.Goals as goal
 

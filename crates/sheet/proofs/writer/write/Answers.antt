@@ -3,7 +3,6 @@ use mathlib.Core.Path.{◌≡◌, sym, ◌∙◌, ap, subst}
 use mathlib.Core.List.{List}
 use Prim.Native.Nat.{ℕ, ◌≤◌}
 use native.Mathlib.Omega.{arith}
-use borrow.Author.Rules.{rules}
 use Rattle.refusals.specs.Outcomes.{passed, outcome_of}
 use Rattle.refusals.specs.Filling.{filled}
 use Rattle.refusals.specs.Order.{outcome}
@@ -49,7 +48,7 @@ pub returns-then-bytes-size : goal.returns-then-bytes-size
 unfolding sheet_in
 returns-then-bytes-size c =
     let met = (
-      let number = c.args.edition in
+    let number = c.args.edition in
     let line = c.args.line in
     let checked = sym c.check_told-verdict.ensures ∙ ap outcome_of c.in-Pass.is in
     let size = size_of number line _ c.edition_numbered-told.ensures c.byte_count-size.ensures in
@@ -74,7 +73,7 @@ pub returns-in-Refused : goal.returns-in-Refused
 unfolding sheet_in
 returns-in-Refused c =
     let met = (
-      let number = c.args.edition in
+    let number = c.args.edition in
     let line = c.args.line in
     refused_fill (write_checks number line) (sheet_of (numbered number) line) c.args.bytes.now (sym c.check_told-verdict.ensures ∙ ap outcome_of c.in-Refused.is)) in
     record {

@@ -1,24 +1,21 @@
 -- `write_sheet` meets its contract: after i turns the head and the first i entries are put, and what is stored of them was stored byte by byte.
 -- Assumes nothing.
 use mathlib.Core.Path.{◌≡◌, refl, sym, ◌∙◌, ap}
-use Prim.Native.Nat.{ℕ, ◌+◌, ◌-◌, ◌≤◌, ◌<◌}
+use Prim.Native.Nat.{ℕ, ◌+◌, ◌<◌}
 use native.Mathlib.Omega.{arith}
-use lib.ListN.{length}
-use Rattle.line.specs.Ranges.{FieldsInRange}
 use Rattle.line.proofs.InRange.{line_in_range}
 use Rattle.bits.specs.Bits.{bits_at, total}
 use Rattle.packed_sheet.specs.Layout.{head_widths, entry_at}
 use Rattle.packed_sheet.specs.Writing.{sheet_of}
-use Rattle.packed_sheet.specs.EachStore.{Stores, none}
+use Rattle.packed_sheet.specs.EachStore.{none}
 use Rattle.packed_sheet.proofs.WaysOut.{sheet_length}
 use Rattle.packed_sheet.proofs.Fitting.{head_fits, entry_fits}
 use Rattle.packed_sheet.proofs.FieldGroups.{head_group, turn_group, size_group}
 use Rattle.packed_sheet.proofs.SoFar.{at_first, stores_then}
 use Rattle.packed_sheet.proofs.EachStore.{each_store}
-use Rattle.sheet.specs.Pens.{position, Begun, Waits}
+use Rattle.sheet.specs.Pens.{position}
 use Rattle.sheet.proofs.Pens.{waits_alone, begun_again}
 use Rattle.sheet.proofs.writer.write_sheet.Goals as goal
-
 
 pub overflow_cast-n : goal.overflow_cast-n
 overflow_cast-n c = omega (arith, (line_in_range c.args.line c.requires.handled.1).few)

@@ -1,0 +1,13 @@
+-- `pokyandi_unit_spiral_table` meets its contract. Assumes nothing.
+use mathlib.Core.Path.{◌∙◌, ap}
+use Rattle.pokyandi.specs.Answers.{answer_number}
+use borrow.Author.Rules.{rules}
+use Rattle.pokyandi.proofs.pokyandi_unit_spiral_table.Goals as goal
+
+pub returns : goal.returns
+returns c =
+    let told = c.table_numbers.ensures in
+    record {
+      answer = c.answer_number.ensures ∙ ap answer_number told.answer;
+      memory = told.memory;
+    }
