@@ -11,7 +11,7 @@ unfoldable pub other_number : ℕ → ℕ
 other_number number = cond (eqb number 2) 1 2
 
 -- "with 2 any edition asked for but the other one, with 24 the way back for a start over 200,000,000": over the greatest of the edition asked
--- for, which on the way there no start is (`every-first-converted`)
+-- for, which on the way there no start is (`every_first_converted`)
 unfoldable pub asked_checks : (number start asked : ℕ) → Checks
 asked_checks number start asked =
     check (eqb asked (other_number number)) 2 0

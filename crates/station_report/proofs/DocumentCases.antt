@@ -35,7 +35,7 @@ abbrev sheet1 : List ℕ
 sheet1 =
     0x10 ∷ 0x31 ∷ 0xA0 ∷ 0x00 ∷ 0x00 ∷ 0x00 ∷ 0x00 ∷ 0xF4 ∷ 0x24 ∷ 0x05 ∷ 0x6C ∷ 0xC8 ∷ 0x15 ∷ 0x5C ∷ 0xC0 ∷ 0x4E ∷ 0x20 ∷ 0x01 ∷ 0x86 ∷ 0xA0 ∷ 0x00 ∷ []
 
--- `caseLine d R L` is case 1's line with the first distance d, the radius R and the spiral length L; `row` holds 1 to 7; `noCurve` is "V 70,
+-- `case_line d R L` is case 1's line with the first distance d, the radius R and the spiral length L; `row` holds 1 to 7; `no_curve` is "V 70,
 -- e 8, start 0, no curve, distance 500,000" (`stationing/proofs/Examples.antt`). `sheet9` holds case 9's bytes (`packed_sheet/proofs/Examples.antt`).
 -- A deflection of 177,764 seconds is case 1's.
 pub record DocumentCases : Type 0 where

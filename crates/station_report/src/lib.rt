@@ -42,7 +42,7 @@ pub fn report_sheet(sheet: &[u8], text: &mut [u8]) -> FillAnswer
 pub const ROOM: usize = 5417;
 
 // The text of a sheet: the first `length` bytes of `text`; those behind them are zero.
-#[derive(Drop)]
+#[derive(Clone, Copy)]
 pub struct Report {
     pub text: [u8; ROOM],
     pub length: usize,
