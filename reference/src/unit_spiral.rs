@@ -16,6 +16,9 @@ pub const ROW_NUMBERS: usize = 2;
 /// Numbers of the table: x and y of 501 rows.
 pub const TABLE_NUMBERS: usize = 1_002;
 
+/// The longest line of a laid out source.
+const SOURCE_COLUMNS: usize = 100;
+
 /// What the Rattle source of the table says of it.
 const SOURCE_COMMENT: &str = "// The spiral of length one at 0, 1, .. 500 thousandths of a \
     radian: x and y of each row, at scale 10⁹. Made by reference/make-samples.";
@@ -71,11 +74,19 @@ pub fn table_text() -> String {
     rows.collect()
 }
 
-/// The Rattle source of the table, laid out as `rt fmt` does.
+/// The Rattle source of the table, laid out as `rt fmt` does: as many numbers to a
+/// line as fit.
 pub fn table_source() -> String {
-    let numbers = table().into_iter();
-    let numbers: String = numbers.map(|number| format!("    {number},\n")).collect();
-    format!("{SOURCE_COMMENT}\npub(crate) const TABLE: [u32; {TABLE_NUMBERS}] = [\n{numbers}];\n")
+    let mut lines: Vec<String> = Vec::new();
+    for number in table() {
+        let text = format!(" {number},");
+        match lines.last_mut() {
+            Some(line) if line.len() + text.len() <= SOURCE_COLUMNS => line.push_str(&text),
+            _ => lines.push(format!("   {text}")),
+        }
+    }
+    let numbers = lines.join("\n");
+    format!("{SOURCE_COMMENT}\npub(crate) const TABLE: [u32; {TABLE_NUMBERS}] = [\n{numbers}\n];\n")
 }
 
 #[cfg(test)]
@@ -310,13 +321,22 @@ mod tests {
     fn source_of_the_table() {
         let source = table_source();
         let lines: Vec<&str> = source.lines().collect();
-        assert_eq!(lines.len(), 2 + TABLE_NUMBERS + 1);
+        assert!(lines
+            .iter()
+            .skip(1)
+            .all(|line| line.len() <= SOURCE_COLUMNS));
         assert!(
             lines[0].starts_with("// ") && lines[0].ends_with(" Made by reference/make-samples.")
         );
         assert_eq!(lines[1], "pub(crate) const TABLE: [u32; 1002] = [");
-        assert_eq!(lines[2..5], ["    1000000000,", "    0,", "    999999900,"]);
-        assert_eq!(lines[1_002..], ["    975287682,", "    163714150,", "];"]);
-        assert!(source.ends_with("\n];\n"));
+        assert!(lines[2].starts_with("    1000000000, 0, 999999900, "));
+        assert!(source.ends_with(" 975287682, 163714150,\n];\n"));
+        let numbers = lines[2..lines.len() - 1]
+            .iter()
+            .flat_map(|line| line.split_whitespace());
+        let numbers: Vec<u64> = numbers
+            .map(|number| number.strip_suffix(',').unwrap().parse().unwrap())
+            .collect();
+        assert_eq!(numbers, table());
     }
 }
