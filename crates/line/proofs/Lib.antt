@@ -4,7 +4,6 @@ pub mod InRange
 pub mod Unused
 pub mod Entries
 pub mod Sides
-pub mod Beside
 pub mod Numbers
 pub mod SpeedTables
 pub mod Examples

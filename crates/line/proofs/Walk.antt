@@ -23,7 +23,7 @@ unfolding body_checks
 stays l i zero e = ap (λ (n : ℕ). outcome (body_checks l n)) (add-zero i) ∙ e
 stays l i (suc j) e = ap (λ (n : ℕ). outcome (body_checks l n)) (add-suc i j) ∙ join (stays l i j e) refl
 
-pub body_refused : (l : Line) (i k : ℕ) {o : Outcome} {n p : ℕ} → i ≤ k → o ≡ outcome (body_checks l i) → o ≡ refused n p → o ≡ outcome (body_checks l k)
-body_refused l i k h e r =
+pub body_refused : (l : Line) (i k : ℕ) {n p : ℕ} → i ≤ k → refused n p ≡ outcome (body_checks l i) → refused n p ≡ outcome (body_checks l k)
+body_refused l i k h e =
     let all : i + (k - i) ≡ k = omega arith in
-    r ∙ sym (stays l i (k - i) (sym e ∙ r)) ∙ ap (λ (n : ℕ). outcome (body_checks l n)) all
+    sym (stays l i (k - i) (sym e)) ∙ ap (λ (n : ℕ). outcome (body_checks l n)) all

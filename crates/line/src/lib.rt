@@ -43,7 +43,7 @@ pub struct Line {
 pub fn side_bit(left: bool) -> u32
     ensures { result ≡ side_bit left }
 {
-    if left { 1 } else { 0 }
+    u32::from(left)
 }
 
 // A line without curves, all its fields zero.

@@ -3,10 +3,9 @@ use mathlib.Core.Path.{◌≡◌, refl}
 use mathlib.Core.Bool.{false}
 use mathlib.Core.List.{List, [], ◌∷◌, map}
 use Prim.Native.Nat.{ℕ}
+use Rattle.std.specs.Prelude.{Ok, Err}
 use Rattle.refusals.specs.declared.Refusal.{Refusal}
 use Rattle.refusals.specs.declared.Refusal.TheVariants.{Truncated, Edition, CurveCount, Speed, Crossfall, Start, Trailing, Distance, Deflection, Radius, Spiral, LeastRadius, LeastSpiral, ShortArc, ShortStraight, SmallBuffer, Station, Coordinate, NoTurn, WideTurn, VerticalCurve, Grade, Sight, FarStart, Thousandth}
-use Rattle.refusals.specs.declared.Verdict.TheVariants.{Refused as refusedBy}
-use Rattle.refusals.specs.declared.FillAnswer.TheVariants.{Count, Refused}
 use Rattle.refusals.specs.Table.{number_of, place_of}
 use Rattle.refusals.specs.Outcomes.{refused, outcome_of}
 use Rattle.refusals.specs.Order.{unchecked, check}
@@ -22,9 +21,9 @@ table =
 pub record Examples : Type 0 where
   pub numbers : map number_of table ≡ 1 ∷ 2 ∷ 3 ∷ 4 ∷ 5 ∷ 6 ∷ 7 ∷ 8 ∷ 9 ∷ 10 ∷ 11 ∷ 12 ∷ 13 ∷ 14 ∷ 15 ∷ 16 ∷ 17 ∷ 18 ∷ 19 ∷ 20 ∷ 21 ∷ 22 ∷ 23 ∷ 24 ∷ 25 ∷ []
   pub places : map place_of table ≡ 0 ∷ 0 ∷ 0 ∷ 0 ∷ 0 ∷ 0 ∷ 0 ∷ 28 ∷ 29 ∷ 30 ∷ 31 ∷ 32 ∷ 33 ∷ 34 ∷ 35 ∷ 0 ∷ 0 ∷ 0 ∷ 39 ∷ 40 ∷ 41 ∷ 42 ∷ 43 ∷ 0 ∷ 0 ∷ []
-  pub verdict_says : outcome_of (refusedBy (Distance 64)) ≡ refused 8 64
-  pub count_says : fill_reply_of (Count 257) ≡ filled 257
-  pub refusal_says : fill_reply_of (Refused (Distance 64)) ≡ unfilled 8 64
+  pub verdict_says : outcome_of {T = Unit {0}} (Err (Distance 64)) ≡ refused 8 64
+  pub count_says : fill_reply_of (Ok 257) ≡ filled 257
+  pub refusal_says : fill_reply_of (Err (Distance 64)) ≡ unfilled 8 64
   pub exact : (fill {A = ℕ} unchecked (1 ∷ 2 ∷ []) (7 ∷ 8 ∷ [])).reply ≡ filled 2
   pub too_small : (fill {A = ℕ} unchecked (1 ∷ 2 ∷ []) (7 ∷ [])).reply ≡ unfilled 16 0
   pub sixteen_last : (fill {A = ℕ} (check false 14 3) (1 ∷ 2 ∷ []) (7 ∷ [])).reply ≡ unfilled 14 3

@@ -4,9 +4,8 @@ use mathlib.Core.Logic.{◌⊎◌, inl, inr}
 use mathlib.Core.Bool.{Bool, true, false}
 use Prim.Native.Nat.{ℕ}
 use native.Mathlib.Omega.{arith}
+use Rattle.std.specs.Prelude.{Result, Ok, Err}
 use Rattle.refusals.specs.declared.Refusal.{Refusal}
-use Rattle.refusals.specs.declared.Verdict.{Verdict}
-use Rattle.refusals.specs.declared.Verdict.TheVariants.{Pass, Refused}
 use Rattle.refusals.specs.Table.{number_of, place_of}
 use Rattle.refusals.specs.Outcomes.{Outcome, passed, refused, outcome_of, need, ◌▹◌}
 
@@ -26,7 +25,7 @@ need_holds false n p e = cc
 pub never : {A : Type 0} (n p : ℕ) → passed ≡ refused n p → A
 never n p e = let z : ◌≡◌ {A = ℕ} 0 1 = cc in absurd (omega arith)
 
-pub not_both : {A : Type 0} {v : Verdict} {r : Refusal} → v ≡ Refused r → v ≡ Pass → A
+pub not_both : {A T : Type 0} {v : Result T Refusal} {r : Refusal} {value : T} → v ≡ Err r → v ≡ Ok value → A
 not_both {v} {r} e q = never (number_of r) (place_of r) (sym (ap outcome_of q) ∙ ap outcome_of e)
 
 pub refused_by : (a b : Outcome) {n p : ℕ} → (a ▹ b) ≡ refused n p → (a ≡ refused n p) ⊎ ((a ≡ passed) × (b ≡ refused n p))
@@ -39,17 +38,20 @@ need_refused true m q {n} {p} e = never n p e
 need_refused false m q e = (refl, cc, cc)
 
 -- The first refusal is the whole one.
-pub refused_first : (v : Verdict) {r : Refusal} (a b : Outcome) → v ≡ Refused r → outcome_of v ≡ a → outcome_of v ≡ (a ▹ b)
-refused_first v {r} a b e h = h ∙ stays v r a b e h
+pub refused_first : {T : Type 0} (v : Result T Refusal) {r : Refusal} (a b : Outcome) → v ≡ Err r → outcome_of v ≡ a → outcome_of v ≡ (a ▹ b)
+refused_first v {r} a b e h = h ∙ stays a b (sym h ∙ ap outcome_of e)
   where
-    stays : (v : Verdict) (r : Refusal) (a b : Outcome) → v ≡ Refused r → outcome_of v ≡ a → a ≡ (a ▹ b)
-    stays v r passed b e h = cc
-    stays v r (refused n p) b e h = refl
+    stays : (a b : Outcome) {n p : ℕ} → a ≡ refused n p → a ≡ (a ▹ b)
+    stays passed b {n} {p} e = never n p e
+    stays (refused n p) b e = refl
 
 -- Where the first passes, the second decides.
-pub passed_first : (v : Verdict) (a b : Outcome) → v ≡ Pass → outcome_of v ≡ a → b ≡ (a ▹ b)
-passed_first v passed b e h = refl
-passed_first v (refused n p) b e h = cc
+pub passed_first : {T : Type 0} (v : Result T Refusal) {value : T} (a b : Outcome) → v ≡ Ok value → outcome_of v ≡ a → b ≡ (a ▹ b)
+passed_first v a b e h = follows a b (sym h ∙ ap outcome_of e)
+  where
+    follows : (a b : Outcome) → a ≡ passed → b ≡ (a ▹ b)
+    follows passed b e = refl
+    follows (refused n p) b e = never n p (sym e)
 
 -- Outcomes join in one order, however they are grouped.
 pub regroup : (a b c : Outcome) → ((a ▹ b) ▹ c) ≡ (a ▹ b ▹ c)

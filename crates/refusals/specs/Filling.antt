@@ -1,7 +1,6 @@
 -- A call that fills a caller's buffer: what it answers and what the buffer then holds, after document 01's "Refusal table" and "Order".
-use Rattle.std.specs.Prelude.{List, ◌++◌, ℕ, leb, length, drop}
-use Rattle.refusals.specs.declared.FillAnswer.{FillAnswer}
-use Rattle.refusals.specs.declared.FillAnswer.TheVariants.{Count, Refused}
+use Rattle.std.specs.Prelude.{List, ◌++◌, ℕ, leb, length, drop, Result, Ok, Err}
+use Rattle.refusals.specs.declared.Refusal.{Refusal}
 use Rattle.refusals.specs.Table.{number_of, place_of}
 use Rattle.refusals.specs.Outcomes.{Outcome, passed, refused}
 use Rattle.refusals.specs.Order.{Checks, check, ◌⨾◌, outcome}
@@ -12,9 +11,9 @@ pub data FillReply : Type 0 where
   unfilled : (number place : ℕ) → FillReply
 
 -- What each case of the answer says.
-abbrev pub fill_reply_of : FillAnswer → FillReply
-fill_reply_of (Count count) = filled count
-fill_reply_of (Refused r) = unfilled (number_of r) (place_of r)
+abbrev pub fill_reply_of : Result ℕ Refusal → FillReply
+fill_reply_of (Ok count) = filled count
+fill_reply_of (Err r) = unfilled (number_of r) (place_of r)
 
 -- The count where the checks pass, else the refusal.
 abbrev pub count_after : Outcome → ℕ → FillReply

@@ -1,7 +1,6 @@
 -- What a check says in document 01's numbers, and how checks join: the first refusal counts.
-use Rattle.std.specs.Prelude.{Bool, true, false, ℕ, zero, suc}
-use Rattle.refusals.specs.declared.Verdict.{Verdict}
-use Rattle.refusals.specs.declared.Verdict.TheVariants.{Pass, Refused}
+use Rattle.std.specs.Prelude.{Bool, true, false, ℕ, zero, suc, Result, Ok, Err}
+use Rattle.refusals.specs.declared.Refusal.{Refusal}
 use Rattle.refusals.specs.Table.{number_of, place_of}
 
 -- What a check says: all is well, or a refusal's number and place.
@@ -9,10 +8,10 @@ pub data Outcome : Type 0 where
   passed : Outcome
   refused : (number place : ℕ) → Outcome
 
--- What each case of a verdict says.
-abbrev pub outcome_of : Verdict → Outcome
-outcome_of Pass = passed
-outcome_of (Refused r) = refused (number_of r) (place_of r)
+-- What each case of an answer says of its checks.
+abbrev pub outcome_of : {T : Type 0} → Result T Refusal → Outcome
+outcome_of (Ok value) = passed
+outcome_of (Err r) = refused (number_of r) (place_of r)
 
 -- What must hold, and the refusal where it does not.
 abbrev pub need : Bool → ℕ → ℕ → Outcome

@@ -1,9 +1,14 @@
-// The refusals of document 01's table, which document 02's numbers join, by name with their places, and the verdict of a check.
+// The refusals of document 01's table, which document 02's numbers join, by name with their places, what a check says, and what a call that fills a
+// caller's buffer does.
 #![tactic(auto)]
+
+mod filling;
 
 ghost use Rattle.std.specs.Prelude.{◌≡◌};
 ghost use Rattle.refusals.specs.Table.{number_of, place_of};
 ghost use Rattle.refusals.specs.Outcomes.{outcome_of, need, ◌▹◌};
+
+pub use filling::fill_front;
 
 // A refusal with its place: the index of a distance (0 to n), the number of a curve or a vertex (1 to n), or none.
 #[derive(Clone, Copy)]
@@ -60,20 +65,6 @@ pub enum Refusal {
     Thousandth,
 }
 
-// What a call that fills a caller's buffer answers: how many entries it wrote at the buffer's front, or why it wrote none.
-#[derive(Clone, Copy)]
-pub enum FillAnswer {
-    Count(usize),
-    Refused(Refusal),
-}
-
-// What a check says.
-#[derive(Clone, Copy)]
-pub enum Verdict {
-    Pass,
-    Refused(Refusal),
-}
-
 impl Refusal {
     // The number in document 01's table.
     pub fn number(self) -> u8
@@ -113,52 +104,45 @@ impl Refusal {
         ensures { result ≡ place_of self }
     {
         match self {
-            Refusal::Truncated => 0,
-            Refusal::Edition => 0,
-            Refusal::CurveCount => 0,
-            Refusal::Speed => 0,
-            Refusal::Crossfall => 0,
-            Refusal::Start => 0,
-            Refusal::Trailing => 0,
-            Refusal::Distance(index) => index,
-            Refusal::Deflection(curve) => curve,
-            Refusal::Radius(curve) => curve,
-            Refusal::Spiral(curve) => curve,
-            Refusal::LeastRadius(curve) => curve,
-            Refusal::LeastSpiral(curve) => curve,
-            Refusal::ShortArc(curve) => curve,
-            Refusal::ShortStraight(index) => index,
-            Refusal::SmallBuffer => 0,
-            Refusal::Station => 0,
-            Refusal::Coordinate => 0,
-            Refusal::NoTurn(curve) => curve,
-            Refusal::WideTurn(curve) => curve,
-            Refusal::VerticalCurve(vertex) => vertex,
-            Refusal::Grade(vertex) => vertex,
-            Refusal::Sight(vertex) => vertex,
-            Refusal::FarStart => 0,
-            Refusal::Thousandth => 0,
+            Refusal::Truncated
+            | Refusal::Edition
+            | Refusal::CurveCount
+            | Refusal::Speed
+            | Refusal::Crossfall
+            | Refusal::Start
+            | Refusal::Trailing
+            | Refusal::SmallBuffer
+            | Refusal::Station
+            | Refusal::Coordinate
+            | Refusal::FarStart
+            | Refusal::Thousandth => 0,
+            Refusal::Distance(place)
+            | Refusal::Deflection(place)
+            | Refusal::Radius(place)
+            | Refusal::Spiral(place)
+            | Refusal::LeastRadius(place)
+            | Refusal::LeastSpiral(place)
+            | Refusal::ShortArc(place)
+            | Refusal::ShortStraight(place)
+            | Refusal::NoTurn(place)
+            | Refusal::WideTurn(place)
+            | Refusal::VerticalCurve(place)
+            | Refusal::Grade(place)
+            | Refusal::Sight(place) => place,
         }
     }
 }
 
 // What must hold, and the refusal where it does not.
-pub fn must(holds: bool, refusal: Refusal) -> Verdict
+pub fn must(holds: bool, refusal: Refusal) -> Result<(), Refusal>
     ensures { outcome_of result ≡ need holds (number_of refusal) (place_of refusal) }
 {
-    if holds {
-        Verdict::Pass
-    } else {
-        Verdict::Refused(refusal)
-    }
+    if holds { Ok(()) } else { Err(refusal) }
 }
 
-// The first refusal of two verdicts.
-pub fn first(a: Verdict, b: Verdict) -> Verdict
+// The first refusal of two checks.
+pub fn first(a: Result<(), Refusal>, b: Result<(), Refusal>) -> Result<(), Refusal>
     ensures { outcome_of result ≡ (outcome_of a ▹ outcome_of b) }
 {
-    match a {
-        Verdict::Pass => b,
-        Verdict::Refused(_) => a,
-    }
+    a.and(b)
 }

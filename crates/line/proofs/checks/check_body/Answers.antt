@@ -1,36 +1,21 @@
--- `check_body`: each turn adds a curve and the distance after it to those that pass, and a refusal ends the loop. Assumes nothing.
-use mathlib.Core.Path.{◌≡◌, sym, ◌∙◌, ap}
-use Prim.Native.Nat.{ℕ, ◌+◌}
+-- `check_body`: a refusal ends the loop, whatever comes after it. Assumes nothing.
+use Prim.Native.Nat.{◌+◌}
 use native.Mathlib.Omega.{arith}
 use borrow.Author.Rules.{rules}
-use Rattle.refusals.specs.Outcomes.{outcome_of}
-use Rattle.refusals.specs.Order.{outcome}
 use Rattle.line.specs.Checks.{body_checks}
 use Rattle.line.proofs.Walk.{body_step, body_refused}
 use Rattle.line.proofs.checks.check_body.Goals as goal
 
-pub returns-in_default : goal.returns-in_default
+pub returns-in_err-check_distance : goal.returns-in_err-check_distance
 unfolding body_checks
-returns-in_default c =
-    let first = c.check_distance-start in
-    body_refused c.args.line 0 c.args.line.count (omega arith) first.ensures (ap outcome_of c.in_default.is)
+returns-in_err-check_distance c =
+    let first = body_refused c.args.line 0 c.args.line.count (omega arith) c.in_err-check_distance.ensures in
+    search rules
 
-pub loop-i-init : goal.loop-i-init
+pub returns-in_err-check_entry : goal.returns-in_err-check_entry
 unfolding body_checks
-loop-i-init c = (search rules, sym c.check_distance-start.ensures ∙ ap outcome_of c.in-Pass.is)
-
-pub returns-in_default-entry : goal.returns-in_default-entry
-returns-in_default-entry c =
+returns-in_err-check_entry c =
     let loop = c.loop-i in
-    let entry = c.check_entry-entry in
-    body_refused c.args.line (loop.i + 1) c.args.line.count (omega arith) (body_step c.args.line loop.i loop.invariant.1 entry.ensures) (ap outcome_of c.in_default-entry.is)
-
-pub loop-i-preserved : goal.loop-i-preserved
-loop-i-preserved c =
-    let loop = c.loop-i in
-    (search rules, sym (body_step c.args.line loop.i loop.invariant.1 c.check_entry-entry.ensures) ∙ ap outcome_of c.in-Pass-entry.is)
-
-pub returns : goal.returns
-returns c =
-    let all : c.loop-i.i ≡ c.args.line.count = omega arith in
-    sym c.loop-i.invariant.1 ∙ ap (λ (n : ℕ). outcome (body_checks c.args.line n)) all
+    let entry = body_step c.args.line loop.i loop.invariant c.in_err-check_entry.ensures in
+    let whole = body_refused c.args.line (loop.i + 1) c.args.line.count (omega arith) entry in
+    search rules
