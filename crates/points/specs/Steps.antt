@@ -1,15 +1,14 @@
 -- What the private steps of the call for a line from points promise.
-use Rattle.std.specs.Prelude.{◌≡◌, cond, List, ℕ, suc, ◌+◌, ◌*◌, ◌≤◌, ℤ, pos, nat_abs, length}
+use Rattle.std.specs.Prelude.{◌≡◌, cond, List, ℕ, suc, ◌+◌, ◌*◌, ◌≤◌, ℤ, pos, nat_abs, length, Result, IfOk}
 use Rattle.std.specs.Int.Signed.{le_z}
+use Rattle.refusals.specs.declared.Refusal.{Refusal}
 use Rattle.refusals.specs.Outcomes.{outcome_of}
 use Rattle.refusals.specs.Order.{Checks, ◌⨾◌, in_turn, outcome}
 use Rattle.line.specs.declared.Line.{Line}
-use Rattle.line.specs.Entries.{line_after}
 use Rattle.turns.specs.Turn.{turn_or_wide}
 use Rattle.stationing.specs.Answer.{alignment_checks}
 use Rattle.coordinates.specs.Legs.{curve_count}
-use Rattle.coordinates.specs.FromPoints.{line_from, length_check, turn_checks, from_points_checks}
-use Rattle.points.specs.declared.FromPoints.{FromPoints}
+use Rattle.coordinates.specs.FromPoints.{line_from, length_check, turn_checks}
 use Rattle.points.specs.Reach.{InReach}
 
 -- Points and designs that pass 3 and 18.
@@ -23,10 +22,10 @@ pub record Usable (points : List ℤ) (designs : List ℕ) : Type 0 where
 unfoldable pub seconds_of : (cross dot : ℤ) → ℕ
 seconds_of cross dot = cond (le_z dot (pos 0)) 216001 (turn_or_wide (nat_abs cross) dot)
 
--- These checks, and the line beside their outcome.
-pub record Made (checks : Checks) (whole : Line) (made : FromPoints) : Type 0 where
-  pub checked : outcome_of made.verdict ≡ outcome checks
-  pub line : made.line ≡ line_after (outcome checks) whole
+-- These checks, and the line where they pass.
+pub record Made (checks : Checks) (whole : Line) (made : Result Line Refusal) : Type 0 where
+  pub checked : outcome_of made ≡ outcome checks
+  pub line : IfOk made (λ line. line ≡ whole)
 
 -- The checks after 3 and 18: 8, then 20 and 19, then the calculator's.
 abbrev pub leg_checks : (v e start : ℕ) → List ℤ → List ℕ → Checks
@@ -34,7 +33,3 @@ leg_checks v e start points designs =
     in_turn (length_check points) (suc (curve_count points))
     ⨾ in_turn (turn_checks points) (curve_count points)
     ⨾ alignment_checks (line_from v e start points designs)
-
--- All checks of the call, and its line.
-abbrev pub MadeFrom : (v e start : ℕ) → List ℤ → List ℕ → FromPoints → Type 0
-MadeFrom v e start points curves made = Made (from_points_checks v e start points curves) (line_from v e start points curves) made

@@ -1,21 +1,19 @@
 // The line of points: refusals 8, then 20 and 19 point by point, then those of the calculator.
-ghost use Rattle.std.specs.Prelude.{◌≡◌, ◌+◌, ◌*◌, ◌<◌, ◌≤◌, leb, ltb, pos, nat_abs, length};
+ghost use Rattle.std.specs.Prelude.{◌≡◌, ◌+◌, ◌*◌, ◌<◌, ◌≤◌, leb, ltb, pos, nat_abs, length, IfOk};
 ghost use Rattle.std.specs.Int.Signed.{lt_z};
 ghost use Rattle.refusals.specs.Outcomes.{outcome_of, need, ◌▹◌};
 ghost use Rattle.refusals.specs.Order.{outcome};
-ghost use Rattle.line.specs.Entries.{line_after, blank_line};
 ghost use Rattle.stationing.specs.Answer.{alignment_checks};
 ghost use Rattle.coordinates.specs.Legs.{cross_at, dot_at};
 ghost use Rattle.coordinates.specs.FromPoints.{line_from, from_points_checks};
 ghost use Rattle.points.specs.Reach.{InReach};
 ghost use Rattle.points.specs.Steps.{Usable, seconds_of, Made, leg_checks};
 
-use crate::FromPoints;
 use crate::checks::{check_coordinates, check_counts};
 use crate::legs::{cross, distance, dot, leg};
 use calculator::line_lengths;
 use line::{Curve, Line, blank_line, check_distance};
-use refusals::{Refusal, Verdict, first, must};
+use refusals::{Refusal, must};
 use signed::size;
 use turns::turn;
 
@@ -53,34 +51,11 @@ fn bend_at(points: &[i64], i: usize) -> Bend
 }
 
 // Refusals 20 and 19 of a turn.
-fn check_turn(turned: u32, place: u16) -> Verdict
+fn check_turn(turned: u32, place: u16) -> Result<(), Refusal>
     ensures { outcome_of result ≡ (need (leb turned 216000) 20 place ▹ need (ltb 0 turned) 19 place) }
 {
-    let wide = must(turned <= 216000, Refusal::WideTurn(place));
-    let none = must(0 < turned, Refusal::NoTurn(place));
-    first(wide, none)
-}
-
-// A refusal, with no line.
-fn no_line(verdict: Verdict) -> FromPoints
-    ensures { (result.verdict ≡ verdict) × (result.line ≡ blank_line) }
-{
-    FromPoints {
-        verdict,
-        line: blank_line(),
-    }
-}
-
-// The calculator's refusals 3 to 15 of a line, or the line.
-fn judged(line: Line) -> FromPoints
-    ensures { Made (alignment_checks line) line result }
-{
-    let lengths = line_lengths(line);
-    let verdict = lengths.verdict;
-    match verdict {
-        Verdict::Pass => FromPoints { verdict, line },
-        Verdict::Refused(_) => no_line(verdict),
-    }
+    must(turned <= 216000, Refusal::WideTurn(place))?;
+    must(0 < turned, Refusal::NoTurn(place))
 }
 
 // The line of points that pass 3 and 18, or the first refusal: 8 by ascending distance, 20 and 19 point by point, then the calculator's.
@@ -90,7 +65,7 @@ fn line_of_legs(
     speed: u32,
     crossfall: u32,
     start: u32,
-) -> FromPoints
+) -> Result<Line, Refusal>
     requires { Usable points.now designs.now }
     ensures { Made (leg_checks speed crossfall start points.now designs.now) (line_from speed crossfall start points.now designs.now) result }
 {
@@ -100,57 +75,42 @@ fn line_of_legs(
     line.crossfall = crossfall;
     line.start = start;
     line.count = n;
-    let mut i = 0;
-    while i <= n {
+    for i in 0..n + 1 {
         let mm = distance(leg(points, i));
-        let ranged = check_distance(mm, i as u16);
-        let Verdict::Pass = ranged else {
-            return no_line(ranged);
-        };
+        check_distance(mm, i as u16)?;
         line.distances[i] = mm;
-        i += 1;
     }
-    let mut k = 0;
-    while k < n {
+    for k in 0..n {
         let bend = bend_at(points, k);
-        let turns = check_turn(bend.seconds, (k + 1) as u16);
-        let Verdict::Pass = turns else {
-            return no_line(turns);
-        };
+        check_turn(bend.seconds, (k + 1) as u16)?;
         line.curves[k] = Curve {
             left: bend.left,
             deflection: bend.seconds,
             radius: designs[2 * k],
             spiral: designs[2 * k + 1],
         };
-        k += 1;
     }
-    judged(line)
+    line_lengths(line)?;
+    Ok(line)
 }
 
 // The line of n + 2 points, whose coordinates stand in `points`, east and north of each in turn, in whole mm; `curves` has the radius and
 // the spiral of each PI in turn, in mm. A distance is the root of the summed squares, rounded down; the deflection is the largest whole
 // number of seconds, 0 to 216,000, that the legs reach by document 01's sine and cosine (document 02, N2); the side is left where the cross
-// product is above zero. Unused entries are zero. Or the first refusal, with a line whose fields are all zero: 3 (other than two numbers
-// for each point and for each PI, or other than 2 to 66 points), 18 (a coordinate beyond 10,000,000 mm either way), 8 by ascending distance,
-// 20 and 19 point by point, then the calculator's 3 to 15. Any numbers are taken.
+// product is above zero. Unused entries are zero. Or the first refusal: 3 (other than two numbers for each point and for each PI, or other
+// than 2 to 66 points), 18 (a coordinate beyond 10,000,000 mm either way), 8 by ascending distance, 20 and 19 point by point, then the
+// calculator's 3 to 15. Any numbers are taken.
 pub fn line_from_points(
     points: &[i64],
     curves: &[u32],
     speed: u32,
     crossfall: u32,
     start: u32,
-) -> FromPoints
-    ensures answer { outcome_of result.verdict ≡ outcome (from_points_checks speed crossfall start points.now curves.now) }
-    ensures line { result.line ≡ line_after (outcome (from_points_checks speed crossfall start points.now curves.now)) (line_from speed crossfall start points.now curves.now) }
+) -> Result<Line, Refusal>
+    ensures answer { outcome_of result ≡ outcome (from_points_checks speed crossfall start points.now curves.now) }
+    ensures line { IfOk result (λ line. line ≡ line_from speed crossfall start points.now curves.now) }
 {
-    let counts = check_counts(points, curves);
-    let Verdict::Pass = counts else {
-        return no_line(counts);
-    };
-    let ranges = check_coordinates(points);
-    let Verdict::Pass = ranges else {
-        return no_line(ranges);
-    };
+    check_counts(points, curves)?;
+    check_coordinates(points)?;
     line_of_legs(points, curves, speed, crossfall, start)
 }

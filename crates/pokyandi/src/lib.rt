@@ -31,7 +31,7 @@ pub fn pokyandi_stations(sheet: &[u8], row: &mut [u64]) -> u64
     ensures answer { result ≡ answer_number (fill (sheet_checks sheet.now) (sheet_stations sheet.now) row.old).reply }
     ensures memory { row.new ≡ (fill (sheet_checks sheet.now) (sheet_stations sheet.now) row.old).buffer }
 {
-    answer_number(sheet_stations(sheet, &mut *row))
+    answer_number(sheet_stations(sheet, row))
 }
 
 // The same checks without a row: how many stations the sheet has, or the first of refusals 1 to 15.
@@ -50,7 +50,7 @@ pub fn pokyandi_peg(sheet: &[u8], station: u64, peg: &mut [i64]) -> u64
     ensures answer { result ≡ answer_number (fill (sheet_peg_checks sheet.now station) (sheet_peg sheet.now station) peg.old).reply }
     ensures memory { peg.new ≡ (fill (sheet_peg_checks sheet.now station) (sheet_peg sheet.now station) peg.old).buffer }
 {
-    answer_number(sheet_peg(sheet, station, &mut *peg))
+    answer_number(sheet_peg(sheet, station, peg))
 }
 
 // A sheet read and written again in its edition, its own bytes, at the front of `bytes`. Refusals 1 to 11, then 16.
@@ -58,7 +58,7 @@ pub fn pokyandi_rewrite(sheet: &[u8], bytes: &mut [u8]) -> u64
     ensures answer { result ≡ answer_number (fill (read_checks sheet.now) sheet.now bytes.old).reply }
     ensures memory { bytes.new ≡ (fill (read_checks sheet.now) sheet.now bytes.old).buffer }
 {
-    answer_number(rewrite_sheet(sheet, &mut *bytes))
+    answer_number(rewrite_sheet(sheet, bytes))
 }
 
 // The line of a sheet as 5 + 5 × n numbers at the front of `line`: n, V, e, start, distance 0, then side, A, R, L and the distance after
@@ -68,7 +68,7 @@ pub fn pokyandi_read(sheet: &[u8], line: &mut [u32]) -> u64
     ensures memory { line.new ≡ (fill (read_checks sheet.now) (sheet_numbers sheet.now) line.old).buffer }
     ensures again { result < 2 ^ 32 → numbers_sheet (read_edition sheet.now) (take result line.new) ≡ sheet.now }
 {
-    answer_number(sheet_numbers(sheet, &mut *line))
+    answer_number(sheet_numbers(sheet, line))
 }
 
 // The sheet of such a line in the edition of a number, at the front of `bytes`. Refusal 2 where that is neither 1 nor 2, 3 where n is over 64
@@ -78,7 +78,7 @@ pub fn pokyandi_write(edition: u32, line: &[u32], bytes: &mut [u8]) -> u64
     ensures answer { result ≡ answer_number (fill (told_checks edition line.now) (numbers_sheet edition line.now) bytes.old).reply }
     ensures memory { bytes.new ≡ (fill (told_checks edition line.now) (numbers_sheet edition line.now) bytes.old).buffer }
 {
-    answer_number(write_numbers(edition, line, &mut *bytes))
+    answer_number(write_numbers(edition, line, bytes))
 }
 
 // The edition of a sheet, 1 or 2, as the count (document 02, N6). Refusals 1 to 11.
@@ -95,7 +95,7 @@ pub fn pokyandi_convert(sheet: &[u8], edition: u32, bytes: &mut [u8]) -> u64
     ensures memory { bytes.new ≡ (conversion sheet.now edition bytes.old).buffer }
     ensures back { result < 2 ^ 32 → converted (take result bytes.new) (read_edition sheet.now) ≡ sheet.now }
 {
-    answer_number(conversion::convert(sheet, edition, &mut *bytes))
+    answer_number(conversion::convert(sheet, edition, bytes))
 }
 
 // The line of points that are given by coordinates (document 02, N2), as `pokyandi_read` gives it, at the front of `line`. `points` are east
@@ -112,7 +112,7 @@ pub fn pokyandi_from_points(
     ensures answer { result ≡ answer_number (fill (from_points_checks speed crossfall start points.now curves.now) (point_numbers speed crossfall start points.now curves.now) line.old).reply }
     ensures memory { line.new ≡ (fill (from_points_checks speed crossfall start points.now curves.now) (point_numbers speed crossfall start points.now curves.now) line.old).buffer }
 {
-    answer_number(point_numbers(points, curves, speed, crossfall, start, &mut *line))
+    answer_number(point_numbers(points, curves, speed, crossfall, start, line))
 }
 
 // The elements of one curve in µm, X, Y, k, p, D and TT: six numbers at the front of `numbers`. The deflection is in seconds of
@@ -121,7 +121,7 @@ pub fn pokyandi_elements(deflection: u32, radius: u32, spiral: u32, numbers: &mu
     ensures answer { result ≡ answer_number (fill (element_checks deflection radius spiral) (element_numbers deflection radius spiral) numbers.old).reply }
     ensures memory { numbers.new ≡ (fill (element_checks deflection radius spiral) (element_numbers deflection radius spiral) numbers.old).buffer }
 {
-    answer_number(curve_numbers(deflection, radius, spiral, &mut *numbers))
+    answer_number(curve_numbers(deflection, radius, spiral, numbers))
 }
 
 // X and Y of a spiral of a length in mm, at an angle in thousandths of a radian, in µm, from the table of the unit spiral (document 02, N8): two
@@ -130,7 +130,7 @@ pub fn pokyandi_unit_spiral(thousandth: u32, length: u32, offsets: &mut [u64]) -
     ensures answer { result ≡ answer_number (unit_spiral_in thousandth length offsets.old).reply }
     ensures memory { offsets.new ≡ (unit_spiral_in thousandth length offsets.old).buffer }
 {
-    answer_number(end_numbers(thousandth, length, &mut *offsets))
+    answer_number(end_numbers(thousandth, length, offsets))
 }
 
 // The table itself at the front of `ratios`: x and y of the spiral of length one, at scale 10⁹, at 0, 1, .. 500 thousandths of a radian, 1,002
@@ -139,7 +139,7 @@ pub fn pokyandi_unit_spiral_table(ratios: &mut [u64]) -> u64
     ensures answer { result ≡ answer_number (table_in ratios.old).reply }
     ensures memory { ratios.new ≡ (table_in ratios.old).buffer }
 {
-    answer_number(spiral_table::table_numbers(&mut *ratios))
+    answer_number(spiral_table::table_numbers(ratios))
 }
 
 // The height of a profile at a station in mm (document 02, N5), in mm: one number at the front of `height`. The profile is V, start, start height and
@@ -149,7 +149,7 @@ pub fn pokyandi_height(profile: &[i64], station: u64, height: &mut [i64]) -> u64
     ensures answer { result ≡ answer_number (fill (profile_numbers_checks profile.now station) (height_numbers profile.now station) height.old).reply }
     ensures memory { height.new ≡ (fill (profile_numbers_checks profile.now station) (height_numbers profile.now station) height.old).buffer }
 {
-    answer_number(profile_numbers::height(profile, station, &mut *height))
+    answer_number(profile_numbers::height(profile, station, height))
 }
 
 // What the program `stations` prints for these bytes, of which it reads 707 at most, at the front of `text`. Refusal 16.
@@ -157,7 +157,7 @@ pub fn pokyandi_text(sheet: &[u8], text: &mut [u8]) -> u64
     ensures answer { result ≡ answer_number (fill unchecked (sheet_text sheet.now) text.old).reply }
     ensures memory { text.new ≡ (fill unchecked (sheet_text sheet.now) text.old).buffer }
 {
-    answer_number(station_report::report_sheet(sheet, &mut *text))
+    answer_number(station_report::report_sheet(sheet, text))
 }
 
 // The version of the library: major × 1,000,000 + minor × 1,000 + patch.

@@ -1,49 +1,32 @@
 // The calls that read or write a line as numbers.
 ghost use Rattle.std.specs.Prelude.{◌≡◌};
-ghost use Rattle.refusals.specs.Outcomes.{passed, outcome_of};
-ghost use Rattle.refusals.specs.Order.{◌⨾◌, outcome};
+ghost use Rattle.refusals.specs.Outcomes.{passed};
+ghost use Rattle.refusals.specs.Order.{outcome};
 ghost use Rattle.refusals.specs.Filling.{fill_reply_of, fill};
-ghost use Rattle.line_numbers.specs.Numbers.{count_check};
-ghost use Rattle.packed_sheet.specs.Layout.{edition_check};
 ghost use Rattle.packed_sheet.specs.Reading.{read_checks, read_edition};
 ghost use Rattle.coordinates.specs.FromPoints.{from_points_checks};
 ghost use Rattle.pokyandi.specs.Calls.{sheet_numbers, told_checks, numbers_sheet, point_numbers};
 
-use refusals::{FillAnswer, Verdict, first};
+use refusals::Refusal;
 
 // The line of a sheet at the front of `numbers`, or the reader's refusal.
-pub(crate) fn sheet_numbers(sheet: &[u8], numbers: &mut [u32]) -> FillAnswer
+pub(crate) fn sheet_numbers(sheet: &[u8], numbers: &mut [u32]) -> Result<usize, Refusal>
     ensures result_value { fill_reply_of result ≡ (fill (read_checks sheet.now) (sheet_numbers sheet.now) numbers.old).reply }
     ensures numbers_after { numbers.new ≡ (fill (read_checks sheet.now) (sheet_numbers sheet.now) numbers.old).buffer }
     ensures sheet_value { outcome (read_checks sheet.now) ≡ passed → numbers_sheet (read_edition sheet.now) (sheet_numbers sheet.now) ≡ sheet.now }
 {
-    let read = sheet::read(sheet);
-    let verdict = read.verdict;
-    match verdict {
-        Verdict::Pass => line_numbers::write(read.line, &mut *numbers),
-        Verdict::Refused(unread) => FillAnswer::Refused(unread),
-    }
-}
-
-// The first of refusals 2, of the edition, and 3, of the count of the numbers.
-fn check_told(edition: u32, numbers: &[u32]) -> Verdict
-    ensures { outcome_of result ≡ outcome (edition_check edition ⨾ count_check numbers.now) }
-{
-    let known = sheet::check_edition(edition);
-    let count = line_numbers::check_count(numbers);
-    first(known, count)
+    let read = sheet::read(sheet)?;
+    line_numbers::write(read.line, numbers)
 }
 
 // The sheet of the line that the numbers spell, in the edition of a number, at the front of `bytes`, or the first refusal.
-pub(crate) fn write_numbers(edition: u32, numbers: &[u32], bytes: &mut [u8]) -> FillAnswer
+pub(crate) fn write_numbers(edition: u32, numbers: &[u32], bytes: &mut [u8]) -> Result<usize, Refusal>
     ensures result_value { fill_reply_of result ≡ (fill (told_checks edition numbers.now) (numbers_sheet edition numbers.now) bytes.old).reply }
     ensures bytes_after { bytes.new ≡ (fill (told_checks edition numbers.now) (numbers_sheet edition numbers.now) bytes.old).buffer }
 {
-    let verdict = check_told(edition, numbers);
-    match verdict {
-        Verdict::Pass => sheet::write(edition, line_numbers::read(numbers), &mut *bytes),
-        Verdict::Refused(refusal) => FillAnswer::Refused(refusal),
-    }
+    sheet::check_edition(edition)?;
+    line_numbers::check_count(numbers)?;
+    sheet::write(edition, line_numbers::read(numbers), bytes)
 }
 
 // The line of points at the front of `numbers`, or the first refusal.
@@ -54,14 +37,10 @@ pub(crate) fn point_numbers(
     crossfall: u32,
     start: u32,
     numbers: &mut [u32],
-) -> FillAnswer
+) -> Result<usize, Refusal>
     ensures result_value { fill_reply_of result ≡ (fill (from_points_checks speed crossfall start points.now curves.now) (point_numbers speed crossfall start points.now curves.now) numbers.old).reply }
     ensures numbers_after { numbers.new ≡ (fill (from_points_checks speed crossfall start points.now curves.now) (point_numbers speed crossfall start points.now curves.now) numbers.old).buffer }
 {
-    let made = points::line_from_points(points, curves, speed, crossfall, start);
-    let verdict = made.verdict;
-    match verdict {
-        Verdict::Pass => line_numbers::write(made.line, &mut *numbers),
-        Verdict::Refused(unmade) => FillAnswer::Refused(unmade),
-    }
+    let line = points::line_from_points(points, curves, speed, crossfall, start)?;
+    line_numbers::write(line, numbers)
 }
