@@ -1,29 +1,80 @@
-// Refusals 3 and 18: how many numbers there are, and their range.
-ghost use Rattle.std.specs.Prelude.{◌≡◌, length};
-ghost use Rattle.refusals.specs.Outcomes.{outcome_of};
+// Refusals 3 and 18: how many numbers there are, and their range; the legs of points that pass them.
+ghost use Rattle.std.specs.Prelude.{◌≡◌, ◌+◌, ◌<◌, length, IfOk};
+ghost use Rattle.refusals.specs.Outcomes.{outcome_of, ◌▹◌};
 ghost use Rattle.refusals.specs.Order.{in_turn, outcome};
+ghost use Rattle.coordinates.specs.Legs.{curve_count, leg_at};
 ghost use Rattle.coordinates.specs.FromPoints.{count_checks, coordinate_check};
+ghost use Rattle.points.specs.Steps.{Usable};
 
+use crate::legs::ShortLeg;
+use coordinates::Leg;
 use refusals::{Refusal, must};
 
+// The coordinates of points, and radius and spiral of each PI, that pass refusals 3 and 18.
+#[derive(Clone, Copy)]
+pub(crate) struct CheckedPoints<'a> {
+    pub(crate) points: &'a [i64],
+    pub(crate) designs: &'a [u32],
+    ghost usable: { Usable points.now designs.now },
+}
+
 // Refusal 3: other than two numbers for each point and two for each PI, or other than 2 to 66 points.
-pub(crate) fn check_counts(points: &[i64], curves: &[u32]) -> Result<(), Refusal>
-    ensures { outcome_of result ≡ outcome (count_checks points.now curves.now) }
+fn check_counts(points: &[i64], designs: &[u32]) -> Result<(), Refusal>
+    ensures { outcome_of result ≡ outcome (count_checks points.now designs.now) }
 {
     let numbers = points.len();
     must(
-        (4..=132).contains(&numbers) && numbers % 2 == 0 && curves.len() == numbers - 4,
+        (4..=132).contains(&numbers) && numbers % 2 == 0 && designs.len() == numbers - 4,
         Refusal::CurveCount,
     )
 }
 
 // Refusal 18: a coordinate beyond 10,000,000 mm either way.
 #[tactic(auto, unfolding(coordinates::specs::FromPoints::coordinate_check, refusals::specs::Outcomes::first_of))]
-pub(crate) fn check_coordinates(points: &[i64]) -> Result<(), Refusal>
+fn check_coordinates(points: &[i64]) -> Result<(), Refusal>
     ensures { outcome_of result ≡ outcome (in_turn (coordinate_check points.now) (length points.now)) }
 {
     for coordinate in points {
-        must(coordinate.unsigned_abs() <= 10000000, Refusal::Coordinate)?;
+        must(
+            coordinate.unsigned_abs() <= 10000000,
+            Refusal::Coordinate,
+        )?;
     }
     Ok(())
+}
+
+impl<'a> CheckedPoints<'a> {
+    // The points, or the first of refusals 3 and 18.
+    pub(crate) fn check(
+        points: &'a [i64],
+        designs: &'a [u32],
+    ) -> Result<CheckedPoints<'a>, Refusal>
+        ensures answer { outcome_of result ≡ (outcome (count_checks points.now designs.now) ▹ outcome (in_turn (coordinate_check points.now) (length points.now))) }
+        ensures fields { IfOk result (λ c. (c.points.now ≡ points.now) × (c.designs.now ≡ designs.now)) }
+    {
+        check_counts(points, designs)?;
+        check_coordinates(points)?;
+        Ok(CheckedPoints { points, designs })
+    }
+
+    // How many curves there are.
+    pub(crate) fn curves(self) -> usize
+        ensures { result ≡ curve_count self.points.now }
+    {
+        self.points.len() / 2 - 2
+    }
+
+    // From point i to the next.
+    pub(crate) fn leg(self, i: usize) -> ShortLeg
+        requires { i < curve_count self.points.now + 1 }
+        ensures { result.leg ≡ leg_at self.points.now i }
+    {
+        let k = 2 * i;
+        ShortLeg {
+            leg: Leg {
+                east: self.points[k + 2] - self.points[k],
+                north: self.points[k + 3] - self.points[k + 1],
+            },
+        }
+    }
 }

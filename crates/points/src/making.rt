@@ -1,20 +1,17 @@
 // The line of points: refusals 8, then 20 and 19 point by point, then those of the calculator.
-ghost use Rattle.std.specs.Prelude.{◌≡◌, ◌+◌, ◌*◌, ◌<◌, ◌≤◌, leb, ltb, pos, nat_abs, length, IfOk};
+ghost use Rattle.std.specs.Prelude.{◌≡◌, ◌<◌, leb, ltb, pos, IfOk};
 ghost use Rattle.std.specs.Int.Signed.{lt_z};
 ghost use Rattle.refusals.specs.Outcomes.{outcome_of, need, ◌▹◌};
 ghost use Rattle.refusals.specs.Order.{outcome};
 ghost use Rattle.stationing.specs.Answer.{alignment_checks};
-ghost use Rattle.coordinates.specs.Legs.{cross_at, dot_at};
+ghost use Rattle.coordinates.specs.Legs.{curve_count, cross_at, dot_at};
 ghost use Rattle.coordinates.specs.FromPoints.{line_from, from_points_checks};
-ghost use Rattle.points.specs.Reach.{InReach};
-ghost use Rattle.points.specs.Steps.{Usable, seconds_of, Made, leg_checks};
+ghost use Rattle.points.specs.Steps.{seconds_of, Made, leg_checks};
 
-use crate::checks::{check_coordinates, check_counts};
-use crate::legs::{cross, distance, dot, leg};
+use crate::checks::CheckedPoints;
 use calculator::line_lengths;
 use line::{Curve, Line, blank_line, check_distance};
 use refusals::{Refusal, must};
-use signed::size;
 use turns::turn;
 
 // The turn at a PI: to the left or else to the right, and by how many seconds; 216,001 for every turn that 20 refuses.
@@ -25,28 +22,28 @@ struct Bend {
 }
 
 // The turn of two legs, in seconds of arc; 216,001 for every turn over 216,000, and where the legs do not go on ahead.
+#[tactic(auto, unfolding(crate::specs::Steps::seconds_of))]
 fn seconds(across: i64, along: i64) -> u32
-    requires { (nat_abs across ≤ 800000000000000) × (nat_abs along ≤ 800000000000000) }
     ensures { result ≡ seconds_of across along }
 {
     if along <= 0 {
         return 216001;
     }
-    turn(size(across), size(along))
+    turn(across.unsigned_abs(), along.unsigned_abs())
 }
 
 // Side and turn at the PI of entry i.
-fn bend_at(points: &[i64], i: usize) -> Bend
-    requires { InReach points.now × (i < 64) × (2 * i + 5 < length points.now) }
-    ensures { (result.left ≡ lt_z (pos 0) (cross_at points.now i)) × (result.seconds ≡ seconds_of (cross_at points.now i) (dot_at points.now i)) }
+fn bend_at(points: CheckedPoints, i: usize) -> Bend
+    requires { i < curve_count points.points.now }
+    ensures left { result.left ≡ lt_z (pos 0) (cross_at points.points.now i) }
+    ensures seconds { result.seconds ≡ seconds_of (cross_at points.points.now i) (dot_at points.points.now i) }
 {
-    let into = leg(points, i);
-    let out = leg(points, i + 1);
-    let across = cross(into, out);
-    let along = dot(into, out);
+    let into = points.leg(i);
+    let out = points.leg(i + 1);
+    let across = into.cross(out);
     Bend {
         left: 0 < across,
-        seconds: seconds(across, along),
+        seconds: seconds(across, into.dot(out)),
     }
 }
 
@@ -60,23 +57,21 @@ fn check_turn(turned: u32, place: u16) -> Result<(), Refusal>
 
 // The line of points that pass 3 and 18, or the first refusal: 8 by ascending distance, 20 and 19 point by point, then the calculator's.
 fn line_of_legs(
-    points: &[i64],
-    designs: &[u32],
+    points: CheckedPoints,
     speed: u32,
     crossfall: u32,
     start: u32,
 ) -> Result<Line, Refusal>
-    requires { Usable points.now designs.now }
-    ensures { Made (leg_checks speed crossfall start points.now designs.now) (line_from speed crossfall start points.now designs.now) result }
+    ensures { Made (leg_checks speed crossfall start points.points.now points.designs.now) (line_from speed crossfall start points.points.now points.designs.now) result }
 {
-    let n = points.len() / 2 - 2;
+    let n = points.curves();
     let mut line = blank_line();
     line.speed = speed;
     line.crossfall = crossfall;
     line.start = start;
     line.count = n;
     for i in 0..n + 1 {
-        let mm = distance(leg(points, i));
+        let mm = points.leg(i).distance();
         check_distance(mm, i as u16)?;
         line.distances[i] = mm;
     }
@@ -86,8 +81,8 @@ fn line_of_legs(
         line.curves[k] = Curve {
             left: bend.left,
             deflection: bend.seconds,
-            radius: designs[2 * k],
-            spiral: designs[2 * k + 1],
+            radius: points.designs[2 * k],
+            spiral: points.designs[2 * k + 1],
         };
     }
     line_lengths(line)?;
@@ -110,7 +105,6 @@ pub fn line_from_points(
     ensures answer { outcome_of result ≡ outcome (from_points_checks speed crossfall start points.now curves.now) }
     ensures line { IfOk result (λ line. line ≡ line_from speed crossfall start points.now curves.now) }
 {
-    check_counts(points, curves)?;
-    check_coordinates(points)?;
-    line_of_legs(points, curves, speed, crossfall, start)
+    let checked = CheckedPoints::check(points, curves)?;
+    line_of_legs(checked, speed, crossfall, start)
 }
