@@ -2,15 +2,15 @@
 -- is answered is 1,000 µm at least. Assumes nothing.
 use mathlib.Core.Path.{◌≡◌, refl, sym, ◌∙◌, ap}
 use mathlib.Core.Bool.{Bool}
-use Prim.Native.Nat.{ℕ, ◌+◌, ◌-◌, ◌*◌, ◌≤◌, ◌<◌}
+use Prim.Native.Nat.{ℕ, ◌+◌, ◌-◌, ◌*◌, ◌≤◌}
 use native.Mathlib.Omega.{arith}
 use lib.Dec.{leb}
 use lib.IntN.{ℤ, pos, ◌-ℤ◌}
 use lib.Signed.{le_z}
-use borrow.Author.Tests.{lt-leb, le-leb, leb-true}
+use borrow.Author.Tests.{leb-true}
 use Rattle.numbers.specs.Whole.{Between}
 use Rattle.numbers.proofs.Differences.{minus_le, reaches}
-use Rattle.refusals.specs.Outcomes.{passed, refused, need}
+use Rattle.refusals.specs.Outcomes.{passed, need}
 use Rattle.refusals.specs.Order.{outcome}
 use Rattle.refusals.proofs.Joining.{passed_left, passed_right, need_holds}
 use Rattle.line.specs.Checks.{curve_checks}
@@ -24,19 +24,11 @@ module _ (A R L : ℕ) {turn full : ℕ} (ef : full ≡ full_angle A) (e : pos t
   unfolding arc_of
   arc_is = ap (λ (z : ℤ). z -ℤ pos (1000 * L)) (sym (e ∙ ap (λ (f : ℕ). rounded (pos (R * f)) 1000000) ef))
 
-  arc_reaches : le_z (pos 1000) (arc_of A R L) ≡ leb (1000 * L + 1000) turn
+  pub arc_reaches : le_z (pos 1000) (arc_of A R L) ≡ leb (1000 * L + 1000) turn
   arc_reaches = ap (le_z (pos 1000)) arc_is ∙ reaches turn (1000 * L) 1000
 
   pub computed_d : 1000 * L ≤ turn → pos (turn - 1000 * L) ≡ arc_of A R L
   computed_d h = sym (minus_le h) ∙ sym arc_is
-
-  pub short_arc_lem : (place : ℕ) → turn < 1000 * L + 1000 → outcome (arc_check A R L place) ≡ refused 14 place
-  unfolding arc_check
-  short_arc_lem place h = rw (arc_reaches, lt-leb _ _ h)
-
-  pub long_arc : (place : ℕ) → 1000 * L + 1000 ≤ turn → outcome (arc_check A R L place) ≡ passed
-  unfolding arc_check
-  long_arc place h = rw (arc_reaches, le-leb _ _ h)
 
 -- An arc that passes 14 at one place passes it at every place.
 pub arc_anywhere : (A R L p q : ℕ) → outcome (arc_check A R L p) ≡ passed → outcome (arc_check A R L q) ≡ passed

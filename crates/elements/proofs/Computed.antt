@@ -4,7 +4,6 @@ use Prim.Native.Nat.{ℕ, ◌+◌, ◌-◌, ◌*◌, ◌/◌, ◌≤◌}
 use lib.IntN.{ℤ, pos, ◌+ℤ◌, ◌-ℤ◌, ◌*ℤ◌}
 use Rattle.numbers.specs.Whole.{◌÷◌}
 use Rattle.numbers.proofs.Differences.{minus_le}
-use Rattle.refusals.specs.Replying.{answered}
 use Rattle.elements.specs.WorkingRule.{scale, rounded, half_angle, sine_of, cosine_of, spiral_x, spiral_y, centre_of, shift_of, arc_of, tan_of, tangent_of}
 use Rattle.elements.specs.Answer.{values_by}
 
@@ -38,6 +37,6 @@ computed_tt A R L ek ep eg eb =
 
 pub computed_values : (A R L : ℕ) {x y k p d tt : ℕ} → pos x ≡ spiral_x R L → pos y ≡ spiral_y R L → pos k ≡ centre_of R L → pos p ≡ shift_of R L
     → pos d ≡ arc_of A R L → pos tt ≡ tangent_of A R L
-    → answered (record { X = pos x; Y = pos y; k = pos k; p = pos p; D = pos d; TT = pos tt }) ≡ answered (values_by A R L)
+    → record { X = pos x; Y = pos y; k = pos k; p = pos p; D = pos d; TT = pos tt } ≡ values_by A R L
 unfolding values_by
 computed_values A R L ex ey ek ep ed et = rw (ex, ey, ek, ep, ed, et)

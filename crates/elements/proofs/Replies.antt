@@ -4,6 +4,7 @@ use mathlib.Core.Bool.{Bool, true, false}
 use Prim.Native.Nat.{ℕ, ◌≤◌}
 use lib.IntN.{pos}
 use lib.Signed.{le_z}
+use Rattle.std.specs.Prelude.{Ok, Err}
 use Rattle.numbers.proofs.Ranges.{at_least, at_most}
 use Rattle.refusals.specs.declared.Refusal.{Refusal}
 use Rattle.refusals.specs.Table.{number_of, place_of}
@@ -15,7 +16,6 @@ use Rattle.line.specs.Checks.{curve_checks}
 use Rattle.line.specs.Ranges.{CurveInRange}
 use Rattle.line.proofs.InRange.{curve_in_range, curve_passes}
 use Rattle.elements.specs.declared.Elements.{Elements}
-use Rattle.elements.specs.declared.ElementAnswer.TheVariants.{Found, Refused}
 use Rattle.elements.specs.WorkingRule.{spiral_x, spiral_y, centre_of, shift_of, arc_of, tangent_of}
 use Rattle.elements.specs.Answer.{Values, reply_of, values_by, arc_check, element_checks, element_reply}
 use Rattle.elements.proofs.Bounds.{bounds}
@@ -34,7 +34,7 @@ pub record FoundElements (A R L : ℕ) (e : Elements) : Type 0 where
   pub D-most : e.arc ≤ 10471975510
   pub TT-most : e.tangent ≤ 12300000000
 
-pub found_elements : (A R L : ℕ) (e : Elements) → reply_of (Found e) ≡ element_reply A R L → FoundElements A R L e
+pub found_elements : (A R L : ℕ) (e : Elements) → reply_of (Ok e) ≡ element_reply A R L → FoundElements A R L e
 unfolding element_reply element_checks values_by
 found_elements A R L e h =
     let told = replied (element_checks A R L) (values_by A R L) h in
@@ -55,12 +55,12 @@ found_elements A R L e h =
     }
 
 -- A refusal that is answered is the checks'.
-pub refused_elements : (A R L : ℕ) (r : Refusal) → reply_of (Refused r) ≡ element_reply A R L → outcome (element_checks A R L) ≡ refused (number_of r) (place_of r)
+pub refused_elements : (A R L : ℕ) (r : Refusal) → reply_of (Err r) ≡ element_reply A R L → outcome (element_checks A R L) ≡ refused (number_of r) (place_of r)
 unfolding element_reply
 refused_elements A R L r h = unreplied (element_checks A R L) (values_by A R L) h
 
 -- A curve in range is refused with 14 alone: at any place, its arc is too short.
-pub refused_arc_lem : (A R L : ℕ) (r : Refusal) (place : ℕ) → CurveInRange A R L → reply_of (Refused r) ≡ element_reply A R L
+pub refused_arc_lem : (A R L : ℕ) (r : Refusal) (place : ℕ) → CurveInRange A R L → reply_of (Err r) ≡ element_reply A R L
     → outcome (arc_check A R L place) ≡ refused 14 place
 unfolding element_checks arc_check
 refused_arc_lem A R L r place ok h =

@@ -1,10 +1,14 @@
 -- The sine and the cosine: their terms fall, so neither is below zero, and the cosine of an angle of 60° and a second or less stays above
 -- 0.45. Assumes nothing.
-use mathlib.Core.Path.{◌≡◌, sym, ◌∙◌, ap}
-use Prim.Native.Nat.{ℕ, suc, ◌+◌, ◌-◌, ◌*◌, ◌/◌, ◌≤◌}
+use mathlib.Core.Path.{◌≡◌, refl, sym, ◌∙◌, ap}
+use mathlib.Core.List.{[], ◌∷◌}
+use Prim.Native.Nat.{ℕ, suc, ◌+◌, ◌-◌, ◌*◌, ◌/◌, ◌%◌, ◌≤◌}
+use native.Mathlib.Numerals.{add-one}
 use native.Mathlib.Nat.{mul_comm, mul-le-mul, mul-le-mul_left, div-le_of_le-mul}
 use native.Mathlib.Omega.{arith}
-use lib.IntN.{pos}
+use lib.IntN.{pos, ◌+ℤ◌, ◌-ℤ◌}
+use lib.ListN.{get_or}
+use borrow.Author.Tests.{eq-eqb, ne_eqb}
 use Rattle.numbers.specs.Whole.{Between}
 use Rattle.numbers.proofs.Differences.{minus_le}
 use Rattle.elements.specs.WorkingRule.{scale, term, alternating, sine_of, cosine_of, sine_divisor, cosine_divisor}
@@ -22,6 +26,39 @@ greatest_turn_angle = 1047202399
 pub next_falls : (former z divisor : ℕ) → z ≤ scale * divisor → former * z / (scale * divisor) ≤ former
 next_falls former z divisor h =
     div-le_of_le-mul (scale * divisor) (rw (mul_comm (scale * divisor) former) (mul-le-mul_left former h))
+
+-- The next term, behind term j.
+pub next_is : (divisor : ℕ → ℕ) (first z j d : ℕ) {former x : ℕ} → former ≡ term divisor first z j → x ≡ former * z / (scale * d) → d ≡ divisor (suc j)
+    → x ≡ term divisor first z (j + 1)
+unfolding term
+next_is divisor first z j d e q same = q ∙ rw (add-one j, e, same)
+
+-- One term more: where it is taken away, it is no greater than what is left.
+module _ (t : ℕ → ℕ) (j : ℕ) (added taken x : ℕ) (sum : pos (added - taken) ≡ alternating t j) (next : x ≡ t (j + 1)) where
+  pub next_taken : taken + x ≤ added → j % 2 ≡ 0 → pos (added - (taken + x)) ≡ alternating t (j + 1)
+  unfolding alternating
+  next_taken above even =
+      let less : added - taken - x ≡ added - (taken + x) = omega arith in
+      let whole : alternating t (j + 1) ≡ alternating t j -ℤ pos (t (j + 1)) = rw (add-one j, eq-eqb (suc j % 2) 1 (omega arith)) in
+      sym (whole ∙ sym (λ i. sum i -ℤ pos (next i)) ∙ minus_le (omega arith) ∙ ap pos less)
+
+  pub next_added : taken ≤ added → j % 2 ≡ 1 → pos (added + x - taken) ≡ alternating t (j + 1)
+  unfolding alternating
+  next_added above odd =
+      let more : added - taken + x ≡ added + x - taken = omega arith in
+      let whole : alternating t (j + 1) ≡ alternating t j +ℤ pos (t (j + 1)) = rw (add-one j, ne_eqb (suc j % 2) 1 (λ q. omega arith)) in
+      sym (whole ∙ sym (λ i. sum i +ℤ pos (next i)) ∙ ap pos more)
+
+-- The divisors of the second to the seventh term, listed.
+pub sine_listed : (first z : ℕ)
+    → alternating (term (λ j. get_or (6 ∷ 20 ∷ 42 ∷ 72 ∷ 110 ∷ 156 ∷ []) (j - 1) 0) first z) 6 ≡ alternating (term sine_divisor first z) 6
+unfolding term alternating
+sine_listed first z = refl
+
+pub cosine_listed : (first z : ℕ)
+    → alternating (term (λ j. get_or (2 ∷ 12 ∷ 30 ∷ 56 ∷ 90 ∷ 132 ∷ []) (j - 1) 0) first z) 6 ≡ alternating (term cosine_divisor first z) 6
+unfolding term alternating
+cosine_listed first z = refl
 
 -- Seven falling terms, written out.
 seven_terms : (t : ℕ → ℕ) → t 1 ≤ t 0 → t 2 ≤ t 1 → t 3 ≤ t 2 → t 4 ≤ t 3 → t 5 ≤ t 4 → t 6 ≤ t 5

@@ -6,6 +6,7 @@ use native.Mathlib.Nat.{mul-le-mul, mul-div_cancel, mul-div_cancel_left, mul-div
 use native.Mathlib.Omega.{arith}
 use lib.Dec.{lit<}
 use lib.IntN.{ℤ, pos, ◌*ℤ◌, zero-*ℤ}
+use Rattle.std.specs.Prelude.{Ok, Err}
 use Rattle.numbers.specs.Whole.{Between}
 use Rattle.numbers.proofs.Ranges.{at_most, natural, product_between}
 use borrow.Author.Tests.{le-leb}
@@ -18,7 +19,6 @@ use Rattle.refusals.proofs.Replied.{replied, unreplied}
 use Rattle.line.specs.Ranges.{CurveInRange}
 use Rattle.line.proofs.InRange.{curve_passes}
 use Rattle.elements.specs.declared.SpiralPoint.{SpiralPoint}
-use Rattle.elements.specs.declared.PointAnswer.TheVariants.{Found, Refused}
 use Rattle.elements.specs.WorkingRule.{scale, rounded, spiral_angle, unit_x, unit_y, spiral_x, spiral_y}
 use Rattle.elements.specs.SpiralPoint.{part_to, angle_to, offset_x, offset_y, Offsets, offsets_by, point_reply_of, inside_check, point_checks, point_reply}
 use Rattle.elements.proofs.Rounding.{rounded_between}
@@ -110,13 +110,13 @@ module _ (A R L l : ℕ) (ok : CurveInRange A R L) (h : l ≤ 1000 * L) where
       rw (curve_passes 1 R L 0 in_range, le-leb l (1000 * L) h)
 
   -- It is not refused.
-  pub never_refused : {B : Type 0} (r : Refusal) → point_reply_of (Refused r) ≡ point_reply R L l → B
+  pub never_refused : {B : Type 0} (r : Refusal) → point_reply_of (Err r) ≡ point_reply R L l → B
   unfolding point_reply
   never_refused r e =
       never (number_of r) (place_of r) (sym passes ∙ unreplied (point_checks R L l) (offsets_by R L l) e)
 
   -- The offsets are the rule's, and y fits.
-  pub found_offsets : (p : SpiralPoint) → point_reply_of (Found p) ≡ point_reply R L l
+  pub found_offsets : (p : SpiralPoint) → point_reply_of (Ok p) ≡ point_reply R L l
       → (pos p.x ≡ offset_x R L l) × (pos p.y ≡ offset_y R L l) × (p.y ≤ 83333333)
   unfolding point_reply offsets_by
   found_offsets p e =

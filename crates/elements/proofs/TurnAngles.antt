@@ -1,9 +1,8 @@
--- The angle of a turn is its full angle up to the greatest turn, and that of the greatest beyond it; so it is 60° and a second at the most.
--- Assumes nothing.
+-- The angle of a turn is its full angle up to the greatest turn, which is 60° and a second at the most. Assumes nothing.
 use mathlib.Core.Path.{◌≡◌}
-use Prim.Native.Nat.{ℕ, ◌≤◌, ◌<◌}
+use Prim.Native.Nat.{ℕ, ◌≤◌}
 use native.Mathlib.Omega.{arith}
-use borrow.Author.Tests.{le-leb, lt-leb}
+use borrow.Author.Tests.{le-leb}
 use Rattle.elements.specs.WorkingRule.{full_angle}
 use Rattle.elements.specs.TurnAngle.{greatest_turn, turn_angle}
 use Rattle.elements.proofs.SineAndCosine.{greatest_turn_angle}
@@ -11,10 +10,6 @@ use Rattle.elements.proofs.SineAndCosine.{greatest_turn_angle}
 pub turn_within : (s : ℕ) → s ≤ greatest_turn → turn_angle s ≡ full_angle s
 unfolding turn_angle
 turn_within s h = rw (le-leb s greatest_turn h)
-
-pub turn_beyond : (s : ℕ) → greatest_turn < s → turn_angle s ≡ full_angle greatest_turn
-unfolding turn_angle
-turn_beyond s h = rw (lt-leb s greatest_turn h)
 
 pub turn_angle_most : (s : ℕ) → s ≤ greatest_turn → full_angle s ≤ greatest_turn_angle
 unfolding full_angle

@@ -1,12 +1,11 @@
 -- The call for one curve's elements (document 01, "Order" and "Working rule"): what is answered for any A, R, L.
-use Rattle.std.specs.Prelude.{ℕ, ℤ, pos}
+use Rattle.std.specs.Prelude.{ℕ, ℤ, pos, Result}
 use Rattle.std.specs.Int.Signed.{le_z}
-use Rattle.refusals.specs.Table.{number_of, place_of}
+use Rattle.refusals.specs.declared.Refusal.{Refusal}
 use Rattle.refusals.specs.Order.{Checks, check, ◌⨾◌}
-use Rattle.refusals.specs.Replying.{Reply, answered, declined, reply}
+use Rattle.refusals.specs.Replying.{Reply, reply_by, reply}
 use Rattle.line.specs.Checks.{curve_checks}
-use Rattle.elements.specs.declared.ElementAnswer.{ElementAnswer}
-use Rattle.elements.specs.declared.ElementAnswer.TheVariants.{Found, Refused}
+use Rattle.elements.specs.declared.Elements.{Elements}
 use Rattle.elements.specs.WorkingRule.{spiral_x, spiral_y, centre_of, shift_of, arc_of, tangent_of}
 
 -- "The element call returns X, Y, k, p, D, TT.", in µm
@@ -18,19 +17,21 @@ pub record Values : Type 0 where
   pub D : ℤ
   pub TT : ℤ
 
--- What each case of the call's answer says.
-abbrev pub reply_of : ElementAnswer → Reply Values
-reply_of (Found e) =
-    answered
-    (record {
+-- Those of an answer's elements.
+abbrev pub values_of : Elements → Values
+values_of e =
+    record {
       X = pos e.x;
       Y = pos e.y;
       k = pos e.centre;
       p = pos e.shift;
       D = pos e.arc;
       TT = pos e.tangent;
-    })
-reply_of (Refused r) = declined (number_of r) (place_of r)
+    }
+
+-- What each case of the call's answer says.
+abbrev pub reply_of : Result Elements Refusal → Reply Values
+reply_of r = reply_by values_of r
 
 -- The six values by the working rule.
 unfoldable pub values_by : ℕ → ℕ → ℕ → Values

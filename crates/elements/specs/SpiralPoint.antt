@@ -1,13 +1,11 @@
 -- Document 02, N1: the offsets of a point of a spiral, at the length l from its outer end (TS or ST). The radius R and the spiral length L
 -- are in mm, l and the offsets in µm.
-use Rattle.std.specs.Prelude.{ℕ, ◌*◌, ◌/◌, leb, ℤ, pos, ◌*ℤ◌}
-use Rattle.refusals.specs.Table.{number_of, place_of}
+use Rattle.std.specs.Prelude.{ℕ, ◌*◌, ◌/◌, leb, ℤ, pos, ◌*ℤ◌, Result}
+use Rattle.refusals.specs.declared.Refusal.{Refusal}
 use Rattle.refusals.specs.Order.{Checks, check, ◌⨾◌}
-use Rattle.refusals.specs.Replying.{Reply, answered, declined, reply}
+use Rattle.refusals.specs.Replying.{Reply, reply_by, reply}
 use Rattle.line.specs.Checks.{curve_checks}
 use Rattle.elements.specs.declared.SpiralPoint.{SpiralPoint}
-use Rattle.elements.specs.declared.PointAnswer.{PointAnswer}
-use Rattle.elements.specs.declared.PointAnswer.TheVariants.{Found, Refused}
 use Rattle.elements.specs.WorkingRule.{scale, rounded, spiral_angle, unit_x, unit_y}
 
 -- "u = l × 10⁶ / L": the part of the spiral up to the point, at scale 10⁹
@@ -38,9 +36,8 @@ abbrev pub offsets_of : SpiralPoint → Offsets
 offsets_of p = record { x = pos p.x; y = pos p.y }
 
 -- What each case of the call's answer says.
-abbrev pub point_reply_of : PointAnswer → Reply Offsets
-point_reply_of (Found p) = answered (offsets_of p)
-point_reply_of (Refused r) = declined (number_of r) (place_of r)
+abbrev pub point_reply_of : Result SpiralPoint Refusal → Reply Offsets
+point_reply_of r = reply_by offsets_of r
 
 -- The offsets by the working rule.
 unfoldable pub offsets_by : ℕ → ℕ → ℕ → Offsets

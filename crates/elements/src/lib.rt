@@ -5,8 +5,7 @@ mod point;
 mod rule;
 mod series;
 mod turn;
-
-use refusals::Refusal;
+mod unit_spiral;
 
 // The scale of angles and ratios.
 const SCALE: u64 = 1000000000;
@@ -32,13 +31,6 @@ pub struct Elements {
     pub tangent: u64,
 }
 
-// What the call for one curve's elements answers.
-#[derive(Clone, Copy)]
-pub enum ElementAnswer {
-    Found(Elements),
-    Refused(Refusal),
-}
-
 // A point of a spiral: its offsets from the tangent at the spiral's outer end, in µm.
 #[derive(Clone, Copy)]
 pub struct SpiralPoint {
@@ -46,13 +38,6 @@ pub struct SpiralPoint {
     pub x: u64,
     // Square to the tangent.
     pub y: u64,
-}
-
-// What the call for one point of a spiral answers.
-#[derive(Clone, Copy)]
-pub enum PointAnswer {
-    Found(SpiralPoint),
-    Refused(Refusal),
 }
 
 // The sine and the cosine of a turn, at scale 10⁹.

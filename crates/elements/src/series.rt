@@ -1,15 +1,38 @@
 // Sine and cosine of document 01's working rule: an angle and its ratio are whole numbers at scale 10⁹.
-ghost use Rattle.std.specs.Prelude.{◌≡◌, ℕ, ◌*◌, ◌/◌, ◌≤◌, pos};
+ghost use Rattle.std.specs.Prelude.{◌≡◌, ◌-◌, ◌*◌, ◌/◌, ◌≤◌, pos, slice_index};
+ghost use Rattle.std.specs.List.{All};
 ghost use Rattle.elements.specs.WorkingRule.{scale, term, alternating, sine_of, cosine_of};
 
 use crate::SCALE;
 
-// The square of an angle.
-fn square(q: u64) -> u64
-    requires { q ≤ 1047202399 }
-    ensures { (result ≡ q * q / scale) × (result ≤ 1096632864) }
-{
-    q * q / SCALE
+// An angle of 60° and a second or less.
+#[derive(Clone, Copy)]
+pub(crate) struct Angle {
+    pub(crate) value: u64,
+    ghost most: { value ≤ 1047202399 },
+}
+
+impl Angle {
+    // The square of the angle.
+    fn square(self) -> u64
+        ensures { (result ≡ self.value * self.value / scale) × (result ≤ 1096632864) }
+    {
+        self.value * self.value / SCALE
+    }
+
+    // The sine.
+    pub(crate) fn sine(self) -> u64
+        ensures { (pos result ≡ sine_of self.value) × (result ≤ self.value) }
+    {
+        series(self.value, self.square(), &[6, 20, 42, 72, 110, 156])
+    }
+
+    // The cosine, which is above 0.45.
+    pub(crate) fn cosine(self) -> u64
+        ensures { (pos result ≡ cosine_of self.value) × (451683568 ≤ result) × (result ≤ 1000000000) }
+    {
+        series(SCALE, self.square(), &[2, 12, 30, 56, 90, 132])
+    }
 }
 
 // The term of a series after the former one, which is no greater.
@@ -21,33 +44,22 @@ fn next_term(former: u64, z: u64, divisor: u64) -> u64
 }
 
 // Seven terms, signs alternating, first plus; the divisors are those of the second to the seventh.
-fn series(first: u64, z: u64, d1: u64, d2: u64, d3: u64, d4: u64, d5: u64, d6: u64) -> u64
+#[tactic(auto, unfolding(crate::specs::WorkingRule::term, crate::specs::WorkingRule::alternating))]
+fn series(first: u64, z: u64, divisors: &[u64; 6]) -> u64
     requires first_bound { (first ≤ 1047202399) × (z ≤ 1096632864) }
-    requires le_d1 { (2 ≤ d1) × (d1 ≤ 156) × (2 ≤ d2) × (d2 ≤ 156) × (2 ≤ d3) × (d3 ≤ 156) }
-    requires le_d4 { (2 ≤ d4) × (d4 ≤ 156) × (2 ≤ d5) × (d5 ≤ 156) × (2 ≤ d6) × (d6 ≤ 156) }
-    ensures { (divisor : ℕ → ℕ) → d1 ≡ divisor 1 → d2 ≡ divisor 2 → d3 ≡ divisor 3 → d4 ≡ divisor 4 → d5 ≡ divisor 5 → d6 ≡ divisor 6 → pos result ≡ alternating (term divisor first z) 6 }
+    requires divisors_bound { All (λ d. (2 ≤ d) × (d ≤ 156)) divisors.now }
+    ensures { pos result ≡ alternating (term (λ j. slice_index divisors.now (j - 1)) first z) 6 }
 {
-    let t1 = next_term(first, z, d1);
-    let t2 = next_term(t1, z, d2);
-    let t3 = next_term(t2, z, d3);
-    let t4 = next_term(t3, z, d4);
-    let t5 = next_term(t4, z, d5);
-    let t6 = next_term(t5, z, d6);
-    first + t2 + t4 + t6 - (t1 + t3 + t5)
-}
-
-// The sine of an angle of 60° and a second or less.
-pub(crate) fn sine(q: u64) -> u64
-    requires { q ≤ 1047202399 }
-    ensures { (pos result ≡ sine_of q) × (result ≤ q) }
-{
-    series(q, square(q), 6, 20, 42, 72, 110, 156)
-}
-
-// The cosine of an angle of 60° and a second or less, which is above 0.45.
-pub(crate) fn cosine(q: u64) -> u64
-    requires { q ≤ 1047202399 }
-    ensures { (pos result ≡ cosine_of q) × (451683568 ≤ result) × (result ≤ 1000000000) }
-{
-    series(SCALE, square(q), 2, 12, 30, 56, 90, 132)
+    let mut term = first;
+    let mut added = first;
+    let mut taken = 0;
+    for (j, divisor) in divisors.iter().enumerate() {
+        term = next_term(term, z, *divisor);
+        if j % 2 == 0 {
+            taken += term;
+        } else {
+            added += term;
+        }
+    }
+    added - taken
 }

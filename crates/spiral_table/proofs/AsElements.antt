@@ -4,6 +4,8 @@ use Prim.Native.Nat.{ℕ, ◌≤◌}
 use native.Mathlib.Omega.{arith}
 use lib.IntN.{pos}
 use borrow.Author.Tests.{le-leb}
+use Rattle.std.specs.Prelude.{Result, Ok}
+use Rattle.refusals.specs.declared.Refusal.{Refusal}
 use Rattle.refusals.specs.Outcomes.{passed, need, ◌▹◌}
 use Rattle.refusals.specs.Order.{outcome}
 use Rattle.refusals.specs.Replying.{answered}
@@ -13,8 +15,7 @@ use Rattle.line.specs.Checks.{curve_checks}
 use Rattle.line.specs.Ranges.{CurveInRange}
 use Rattle.line.proofs.InRange.{curve_in_range}
 use Rattle.elements.specs.declared.Elements.{Elements}
-use Rattle.elements.specs.declared.ElementAnswer.TheVariants.{Found}
-use Rattle.elements.specs.declared.PointAnswer.{PointAnswer}
+use Rattle.elements.specs.declared.SpiralPoint.{SpiralPoint}
 use Rattle.elements.specs.WorkingRule.{unit_x, unit_y, scaled_length, spiral_angle, spiral_x, spiral_y}
 use Rattle.elements.specs.Answer.{reply_of, arc_check, element_checks, element_reply}
 use Rattle.elements.specs.SpiralPoint.{point_reply_of}
@@ -37,7 +38,7 @@ module _ (A R L r : ℕ) (at_row : spiral_angle R L ≡ row_angle r) where
       λ j. need (le-leb r 500 row j) 25 0 ▹ need (le-leb L 500000 ok.L-most j) 11 0
 
   -- Where the element call answers, the look-up answers too, with its X and Y.
-  pub look_up_as_elements : (e : Elements) (a : PointAnswer) → reply_of (Found e) ≡ element_reply A R L → point_reply_of a ≡ look_up_reply r L
+  pub look_up_as_elements : (e : Elements) (a : Result SpiralPoint Refusal) → reply_of (Ok e) ≡ element_reply A R L → point_reply_of a ≡ look_up_reply r L
       → point_reply_of a ≡ answered (record { x = pos e.x; y = pos e.y })
   unfolding look_up_reply element_checks
   look_up_as_elements e a found looked =

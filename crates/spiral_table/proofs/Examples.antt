@@ -4,10 +4,12 @@ use mathlib.Core.Path.{◌≡◌, refl, sym}
 use mathlib.Core.List.{List, [], ◌∷◌}
 use Prim.Native.Nat.{ℕ, ◌+◌, ◌*◌}
 use lib.IntN.{pos}
+use Rattle.std.specs.Prelude.{Result}
+use Rattle.refusals.specs.declared.Refusal.{Refusal}
 use lib.ListN.{get_or, drop, replicate}
 use Rattle.refusals.specs.Filling.{filled, unfilled, with_room, fill}
 use Rattle.refusals.specs.Replying.{Reply, answered, declined, reply}
-use Rattle.elements.specs.declared.PointAnswer.{PointAnswer}
+use Rattle.elements.specs.declared.SpiralPoint.{SpiralPoint}
 use Rattle.elements.specs.WorkingRule.{rounded, spiral_angle, t2, t3, t4, t5, t6, unit_x, unit_y}
 use Rattle.elements.specs.SpiralPoint.{Offsets, point_reply_of}
 use Rattle.elements.proofs.Examples as curves
@@ -88,7 +90,7 @@ examples =
     }
 
 -- The longest spiral that a curve can have, R = L = 500,000 mm: X and Y of its element call, by the law.
-pub widest_spiral : (a : PointAnswer) → point_reply_of a ≡ look_up_reply 500 500000 → point_reply_of a ≡ found 487643841 81857075
+pub widest_spiral : (a : Result SpiralPoint Refusal) → point_reply_of a ≡ look_up_reply 500 500000 → point_reply_of a ≡ found 487643841 81857075
 unfolding spiral_angle row_angle
 widest_spiral a looked =
     look_up_as_elements 432000 500000 500000 500 refl
