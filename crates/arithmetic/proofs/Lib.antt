@@ -1,5 +1,4 @@
--- Laws of the largest number that passes a test, of the whole root, and of products in two parts.
+-- Laws of the largest number that passes a test, and of the whole root.
 pub mod Largest
 pub mod Newton
-pub mod Parts
 pub mod Examples

@@ -90,6 +90,10 @@ pub decimal_short : (n k : ℕ) → n < 10 ^ suc k → length (decimal n) ≤ su
 unfolding decimal
 decimal_short n k h = omega (arith, digits_length 10 (digits_within n n) n, few_digits n n k h)
 
+-- A number of 64 bits has at most 20.
+pub decimal_most : (n : ℕ) → n < 2 ^ 64 → length (decimal n) ≤ 20
+decimal_most n h = decimal_short n 19 (omega arith)
+
 -- 1,000,000 + n has seven digits; without the first they are the six decimals.
 pub seven_digits : (n k : ℕ) → n < 1000000 → IsDigitCount 10 1 (1000000 + n) k → k ≡ 7
 seven_digits n k h few =

@@ -1,14 +1,14 @@
 -- How long the pieces of a text are. Assumes nothing.
 use mathlib.Core.Path.{◌≡◌, ◌∙◌, subst}
 use mathlib.Core.List.{List, ◌++◌}
-use Prim.Native.Nat.{ℕ, zero, suc, ◌+◌, ◌-◌, ◌*◌, ◌/◌, ◌%◌, ◌≤◌}
+use Prim.Native.Nat.{ℕ, zero, suc, ◌+◌, ◌-◌, ◌*◌, ◌/◌, ◌%◌, ◌≤◌, ◌<◌}
 use native.Mathlib.Nat.{add-zero, add-suc}
 use native.Mathlib.Omega.{arith}
 use lib.ListN.{length, get_or, length-append}
 use Rattle.io.specs.Digits.{last_digits}
 use Rattle.report.specs.Numbers.{ascii, decimal, metres}
 use Rattle.report.specs.Text.{words, heading, point_name, point_curve, point_line, lines_of, station_list, refusal_line, row_line, named_line}
-use Rattle.report.proofs.Digits.{digits_length}
+use Rattle.report.proofs.Digits.{digits_length, decimal_length, decimal_most}
 
 pub metres_length : (station : ℕ) → length (metres station) ≡ length (decimal (station / 1000000)) + 7
 unfolding metres ascii
@@ -47,10 +47,12 @@ lines_grow : (line : ℕ → List ℕ) (i k : ℕ) → length (lines_of line i) 
 lines_grow line i zero = rw add-zero (omega arith)
 lines_grow line i (suc k) = rw (add-suc i k, lines_more line (i + k)) (omega (arith, lines_grow line i k))
 
-pub all_lines : (line : ℕ → List ℕ) (i count : ℕ) → i ≤ count → length (lines_of line i) ≤ length (lines_of line count)
-all_lines line i count h =
-    let e : i + (count - i) ≡ count = omega arith in
-    subst (λ (n : ℕ). length (lines_of line i) ≤ length (lines_of line n)) e (lines_grow line i (count - i))
+-- Before the end one more has room.
+pub lines_before : (line : ℕ → List ℕ) (i count : ℕ) → i < count → length (lines_of line i) + length (line i) ≤ length (lines_of line count)
+lines_before line i count h =
+    let e : suc i + (count - suc i) ≡ count = omega arith in
+    let most = subst (λ (n : ℕ). length (lines_of line (suc i)) ≤ length (lines_of line n)) e (lines_grow line (suc i) (count - suc i)) in
+    omega (arith, lines_more line i, most)
 
 pub list_length : (row : List ℕ) → length (station_list row) ≡ 20 + length (lines_of (point_line row) (length row))
 unfolding station_list heading words ascii
@@ -74,3 +76,6 @@ named_length name n =
       length-append (name ++ ascii " ") (decimal n),
       length-append name (ascii " "),
     )
+
+-- How long what is put is.
+pub ruleset lengths = (length-append, decimal_length, decimal_most, metres_length, line_length_lem, row_length)

@@ -1,12 +1,11 @@
 -- Pieces of text, one after the other. Assumes nothing.
 use mathlib.Core.Path.{◌≡◌, sym, ◌∙◌, ap, subst}
 use mathlib.Core.List.{List, [], ◌++◌, append_assoc, append-nil}
-use Prim.Native.Nat.{ℕ, ◌+◌, ◌-◌, ◌≤◌}
-use native.Mathlib.Nat.{add-zero, zero-add}
+use Prim.Native.Nat.{ℕ, ◌≤◌}
+use native.Mathlib.Nat.{add-zero}
 use native.Mathlib.Omega.{arith}
-use lib.ListN.{length, take, drop, length-append, length-drop, take-append-drop, drop_of_length-le}
-use lib.Seq.{take_all, take-length, drop-drop, length-take-le, take_at, drop_at}
-use borrow.Rule.Slice.PartMut.{mid_of, put_mid}
+use lib.ListN.{length, take, drop, length-append, take-append-drop}
+use lib.Seq.{drop-drop, length-take-le, take_at, drop_at}
 use Rattle.report.specs.Numbers.{ascii}
 use Rattle.report.specs.Text.{words}
 use Rattle.report.specs.Pieces.{Wrote}
@@ -32,34 +31,15 @@ wrote_both {b₀} {b₁} {b₂} {x} {y} {p} {q} {r} h k l =
 pub wrote_as : {b₀ b₁ x y : List ℕ} {p q : ℕ} → Wrote b₀ b₁ p q x → x ≡ y → Wrote b₀ b₁ p q y
 wrote_as {b₀} {b₁} {x} {y} {p} {q} w e = subst (Wrote b₀ b₁ p q) e w
 
--- What was put at the front is there.
-pub wrote_front : {b₀ b₁ x : List ℕ} {q : ℕ} → Wrote b₀ b₁ 0 q x → take q b₁ ≡ x
-wrote_front {b₀} {b₁} {x} {q} w = ap (take q) w.holds ∙ take_at x (drop q b₀) q (sym (w.ends ∙ zero-add (length x)))
-
 -- Three words, each with what stands behind it.
-pub words_of : (a b c : List ℕ) → a ++ ascii " " ++ (b ++ ascii " ") ++ (c ++ ascii "\n") ≡ words a b c
+words_of : (a b c : List ℕ) → a ++ ascii " " ++ (b ++ ascii " ") ++ (c ++ ascii "\n") ≡ words a b c
 unfolding words
 words_of a b c =
     let first = a ++ ascii " " in
     sym (append_assoc (first ++ (b ++ ascii " ")) c (ascii "\n"))
     ∙ ap (λ (front : List ℕ). front ++ c ++ ascii "\n") (sym (append_assoc first b (ascii " ")))
 
--- A copy to the front of what lies from `at` on.
-pub copied : (xs piece part : List ℕ) (at n : ℕ) → at + length piece ≤ length xs → n ≡ length piece
-    → part ≡ take (length piece) piece ++ drop (length piece) (mid_of at (length xs - at) xs)
-    → Wrote xs (put_mid at (length xs - at) xs part) at (at + n) piece
-copied xs piece part at n h e p =
-    let size : length (drop at xs) ≤ length xs - at = omega (arith, length-drop at xs) in
-    let mid : mid_of at (length xs - at) xs ≡ drop at xs = take_all (length xs - at) (drop at xs) size in
-    let none : drop (length xs - at) (drop at xs) ≡ [] = drop_of_length-le (drop at xs) size in
-    let whole : take (length piece) piece ≡ piece = take-length piece in
-    let end : length piece ≡ n = sym e in
-    record {
-      ends = ap (λ (m : ℕ). at + m) e;
-      holds =
-          (λ j. take at xs ++ (p j ++ none j))
-          ∙ ap (λ (r : List ℕ). take at xs ++ r) (append-nil (take (length piece) piece ++ drop (length piece) (mid_of at (length xs - at) xs)))
-          ∙ (λ j. take at xs ++ (whole j ++ drop (end j) (mid j)))
-          ∙ ap (λ (r : List ℕ). take at xs ++ (piece ++ r)) (drop-drop n at xs)
-          ∙ sym (append_assoc (take at xs) piece (drop (at + n) xs));
-    }
+-- They are put one after another.
+pub wrote_words : (a b c : List ℕ) {b₀ b₁ b₂ b₃ : List ℕ} {p q r s : ℕ} → p ≤ length b₀ → Wrote b₀ b₁ p q (a ++ ascii " ") → Wrote b₁ b₂ q r (b ++ ascii " ") → Wrote b₂ b₃ r s (c ++ ascii "\n")
+    → Wrote b₀ b₃ p s (words a b c)
+wrote_words a b c h k l m = wrote_as (wrote_both h (wrote_both h k l) m) (words_of a b c)

@@ -1,6 +1,7 @@
 // The text of an answer, as the programs of documents 01 and 02 print it, in the caller's bytes.
 #![tactic(auto)]
 
+mod lines;
 mod list;
 mod numbers;
 mod refusal;

@@ -14,6 +14,7 @@ pub(crate) fn put(text: &mut [u8], at: usize, piece: &[u8]) -> usize
 }
 
 // How many digits a number has.
+#[tactic(auto, using(crate::proofs::Lengths::lengths))]
 pub(crate) fn decimal_length(n: u64) -> usize
     ensures { (result ≡ length (Numbers·decimal n)) × (result ≤ 20) }
 {
@@ -22,30 +23,35 @@ pub(crate) fn decimal_length(n: u64) -> usize
 }
 
 // A number in decimal digits and what stands after it, from index `at` on.
+#[tactic(auto, using(crate::proofs::Lengths::lengths))]
 pub(crate) fn put_decimal(text: &mut [u8], at: usize, n: u64, after: &[u8]) -> usize
     requires { at + length (Numbers·decimal n) + length after.now ≤ length text.old }
     ensures { Wrote text.old text.new at result (Numbers·decimal n ++ after.now) }
 {
     let mut digits = [0u8; 20];
     let count = io::decimal(n, &mut digits);
-    let end = put(&mut *text, at, &digits[..count]);
-    put(&mut *text, end, after)
+    let at = put(text, at, &digits[..count]);
+    put(text, at, after)
 }
 
 // How long a station is in metres.
+#[tactic(auto, using(crate::proofs::Lengths::lengths))]
 pub(crate) fn metres_length(station: u64) -> usize
     ensures { (result ≡ length (metres station)) × (result ≤ 27) }
 {
     decimal_length(station / 1000000) + 7
 }
 
-// A station in metres, from index `at` on. The six decimals are the digits of a number of seven that begins with 1, without that 1.
-pub(crate) fn put_metres(text: &mut [u8], at: usize, station: u64) -> usize
-    requires { at + length (metres station) ≤ length text.old }
-    ensures { Wrote text.old text.new at result (metres station) }
+// A station in metres and what stands after it, from index `at` on. The six decimals are the digits of a number of seven that begins with 1,
+// without that 1.
+#[tactic(auto, using(crate::proofs::Lengths::lengths), unfolding(crate::specs::Numbers::ascii))]
+pub(crate) fn put_metres(text: &mut [u8], at: usize, station: u64, after: &[u8]) -> usize
+    requires { at + length (metres station) + length after.now ≤ length text.old }
+    ensures { Wrote text.old text.new at result (metres station ++ after.now) }
 {
     let mut digits = [0u8; 20];
     io::decimal(1000000 + station % 1000000, &mut digits);
-    let point = put_decimal(&mut *text, at, station / 1000000, b".");
-    put(&mut *text, point, &digits[1..7])
+    let at = put_decimal(text, at, station / 1000000, b".");
+    let at = put(text, at, &digits[1..7]);
+    put(text, at, after)
 }

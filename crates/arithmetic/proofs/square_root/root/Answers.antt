@@ -2,13 +2,13 @@
 -- falls. Assumes nothing.
 use mathlib.Core.Path.{◌≡◌, refl, sym, subst, ◌∙◌}
 use Prim.Native.Nat.{ℕ, ◌+◌, ◌-◌, ◌*◌, ◌/◌, ◌%◌, ◌^◌, ◌≤◌, ◌<◌}
-use native.Mathlib.Nat.{lt_of_lt_of_le, mul-le-mul, one-mul}
+use native.Mathlib.Nat.{lt_of_lt_of_le, one-mul}
 use native.Mathlib.Omega.{arith}
 use lib.Dec.{lit<}
 use lib.Pow.{pow_pos, pow_mono, shr_lt, shl_exact}
-use lib.Count.{count_leading_zeros, leading_le, leading_length}
+use lib.Count.{count_leading_zeros, leading_length}
 use Rattle.arithmetic.proofs.Largest.{root_is}
-use Rattle.arithmetic.proofs.Newton.{newton_above, newton_below, quotient_below, sq_pos}
+use Rattle.arithmetic.proofs.Newton.{newton_above, newton_below, sq_pos}
 use Rattle.arithmetic.proofs.square_root.root.Invariants.{Near}
 use Rattle.arithmetic.proofs.square_root.root.Goals as goal
 
@@ -42,28 +42,11 @@ sum_most n b =
     let s = shr_most n h b refl in
     omega (arith, one_shl h (half_most n))
 
-pub overflow_sub-half : goal.overflow_sub-half
-overflow_sub-half c = leading_le 64 c.args.n
-
 pub overflow_add-r : goal.overflow_add-r
 overflow_add-r c = omega (arith, sum_most c.args.n c.ranges.n.fits)
 
 pub loop-r-init : goal.loop-r-init
 loop-r-init c = first c.args.n c.ranges.n.fits
-
-pub overflow_mul-r : goal.overflow_mul-r
-overflow_mul-r c =
-    omega
-    (arith, mul-le-mul {n₁ = c.loop-r.r} {m₁ = c.loop-r.r} {n₂ = 4294967295} {m₂ = 4294967295} (omega arith) (omega arith))
-
-pub nonzero_div-r-in-loop-r : goal.nonzero_div-r-in-loop-r
-nonzero_div-r-in-loop-r c = sq_pos c.args.n c.loop-r.r c.loop-r-test.true
-
-pub overflow_add-r-in-loop-r : goal.overflow_add-r-in-loop-r
-overflow_add-r-in-loop-r c = omega (arith, quotient_below c.args.n c.loop-r.r c.loop-r-test.true)
-
-pub loop-r-smaller : goal.loop-r-smaller
-loop-r-smaller c = newton_below c.args.n c.loop-r.r c.loop-r-test.true
 
 pub loop-r-preserved : goal.loop-r-preserved
 loop-r-preserved c =
