@@ -56,6 +56,6 @@ line_goes_on numbers i l c d h e p q =
     })
 
 -- All n curves.
-pub line_done : (numbers : List ℕ) → line_to numbers (number_at numbers 0) ≡ line_of numbers
+pub line_done : (numbers : List ℕ) (i : ℕ) → number_at numbers 0 ≡ i → line_to numbers i ≡ line_of numbers
 unfolding line_to line_of
-line_done numbers = rw (add-one (number_at numbers 0)) refl
+line_done numbers i e = rw (add-one i, e) refl

@@ -3,26 +3,24 @@ ghost use Rattle.std.specs.Prelude.{◌≡◌, ◌+◌, ◌*◌, ◌<◌, ◌≤
 ghost use Rattle.refusals.specs.Outcomes.{outcome_of};
 ghost use Rattle.refusals.specs.Order.{outcome};
 ghost use Rattle.line.specs.Entries.{line_after};
-ghost use Rattle.line_numbers.specs.Numbers.{turn_of, curve_of, line_of, count_check};
+ghost use Rattle.line_numbers.specs.Numbers.{number_count, number_at, turn_of, curve_of, line_of, count_check};
 
 use line::{Curve, Line, blank_line};
-use refusals::{Refusal, Verdict, must};
+use refusals::{Refusal, must};
 
 // Refusal 3: over 64 curves, or other than the 5 + 5 × n numbers of n curves, so that a line cut short is never taken for a whole one.
-pub fn check_count(numbers: &[u32]) -> Verdict
+#[tactic(auto, unfolding(crate::specs::Numbers::count_check))]
+pub fn check_count(numbers: &[u32]) -> Result<(), Refusal>
     ensures { outcome_of result ≡ outcome (count_check numbers.now) }
 {
-    if numbers.len() < 1 {
-        return Verdict::Refused(Refusal::CurveCount);
-    }
-    let n = numbers[0] as usize;
-    if 64 < n {
-        return Verdict::Refused(Refusal::CurveCount);
-    }
-    must(numbers.len() == 5 + 5 * n, Refusal::CurveCount)
+    must(
+        !numbers.is_empty() && numbers[0] <= 64 && numbers.len() == 5 + 5 * numbers[0] as usize,
+        Refusal::CurveCount,
+    )
 }
 
 // The deflection of a curve; 0, which is out of its range, where the side is neither 0 nor 1.
+#[tactic(auto, unfolding(crate::specs::Numbers::turn_of))]
 fn turn_of(side: u32, deflection: u32) -> u32
     ensures { result ≡ turn_of side deflection }
 {
@@ -30,6 +28,7 @@ fn turn_of(side: u32, deflection: u32) -> u32
 }
 
 // The curve of an entry.
+#[tactic(auto, unfolding(crate::specs::Numbers::curve_of))]
 fn curve_of(numbers: &[u32], entry: usize) -> Curve
     requires { (entry < 64) × (10 + 5 * entry ≤ length numbers.now) }
     ensures { result ≡ curve_of numbers.now entry }
@@ -44,27 +43,36 @@ fn curve_of(numbers: &[u32], entry: usize) -> Curve
     }
 }
 
+// The line of numbers that are those of at most 64 curves, its unused entries zero.
+#[tactic(auto, using(crate::proofs::Filling::line_begun, crate::proofs::Filling::line_goes_on, crate::proofs::Filling::line_done))]
+fn line_of(numbers: &[u32]) -> Line
+    requires few { number_at numbers.now 0 ≤ 64 }
+    requires all { length numbers.now ≡ number_count (number_at numbers.now 0) }
+    ensures { result ≡ line_of numbers.now }
+{
+    let mut line = Line {
+        speed: numbers[1],
+        crossfall: numbers[2],
+        start: numbers[3],
+        count: numbers[0] as usize,
+        ..blank_line()
+    };
+    line.distances[0] = numbers[4];
+    for i in 0..line.count {
+        line.curves[i] = curve_of(numbers, i);
+        line.distances[i + 1] = numbers[9 + 5 * i];
+    }
+    line
+}
+
 // The line of numbers, its unused entries zero; after refusal 3 a line whose fields are all zero. A curve whose side is neither 0 nor 1 has
 // no deflection, which 9 refuses. Any numbers are taken; their ranges are checked by whoever takes the line.
+#[tactic(auto, using(crate::proofs::LineAndNumbers::few_counted, crate::proofs::LineAndNumbers::all_counted))]
 pub fn read(numbers: &[u32]) -> Line
     ensures { result ≡ line_after (outcome (count_check numbers.now)) (line_of numbers.now) }
 {
-    let mut line = blank_line();
-    let verdict = check_count(numbers);
-    let Verdict::Pass = verdict else {
-        return line;
-    };
-    let n = numbers[0] as usize;
-    line.count = n;
-    line.speed = numbers[1];
-    line.crossfall = numbers[2];
-    line.start = numbers[3];
-    line.distances[0] = numbers[4];
-    let mut i = 0;
-    while i < n {
-        line.curves[i] = curve_of(numbers, i);
-        i += 1;
-        line.distances[i] = numbers[4 + 5 * i];
+    match check_count(numbers) {
+        Ok(()) => line_of(numbers),
+        Err(_) => blank_line(),
     }
-    line
 }

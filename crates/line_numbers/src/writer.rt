@@ -1,69 +1,47 @@
 // The numbers of a line, at the front of the caller's.
-ghost use Rattle.std.specs.Prelude.{◌≡◌, [], ◌∷◌, ◌++◌, ◌+◌, ◌≤◌, length, take, drop};
+ghost use Rattle.std.specs.Prelude.{◌≡◌, ◌++◌, ◌≤◌, length, drop};
 ghost use Rattle.refusals.specs.Filling.{fill_reply_of, fill};
 ghost use Rattle.line_numbers.specs.Numbers.{number_count, line_numbers, few_check};
 
 use line::{Line, side_bit};
-use refusals::{FillAnswer, Refusal};
-
-// Five numbers from `at` on.
-fn store_five(numbers: &mut [u32], at: usize, a: u32, b: u32, c: u32, d: u32, e: u32)
-    requires { at + 5 ≤ length numbers.old }
-    ensures { numbers.new ≡ take at numbers.old ++ (a ∷ b ∷ c ∷ d ∷ e ∷ []) ++ drop (at + 5) numbers.old }
-{
-    numbers[at] = a;
-    numbers[at + 1] = b;
-    numbers[at + 2] = c;
-    numbers[at + 3] = d;
-    numbers[at + 4] = e;
-}
+use refusals::{Refusal, must};
 
 // The numbers of a line of at most 64 curves, at the front of numbers that are enough.
-fn store_line(line: Line, numbers: &mut [u32])
-    requires { (line.count ≤ 64) × (number_count line.count ≤ length numbers.old) }
-    ensures { numbers.new ≡ line_numbers line ++ drop (number_count line.count) numbers.old }
+#[tactic(auto, using(crate::proofs::Storing::entry_stored), unfolding(crate::specs::Numbers::line_numbers, crate::specs::Numbers::numbers_to))]
+fn store_line(line: &Line, numbers: &mut [u32])
+    requires { (line.now.count ≤ 64) × (number_count line.now.count ≤ length numbers.old) }
+    ensures { numbers.new ≡ line_numbers line.now ++ drop (number_count line.now.count) numbers.old }
 {
-    let n = line.count;
-    store_five(
-        &mut *numbers,
-        0,
-        n as u32,
+    numbers[..5].copy_from_slice(&[
+        line.count as u32,
         line.speed,
         line.crossfall,
         line.start,
         line.distances[0],
-    );
-    let mut i = 0;
-    while i < n {
+    ]);
+    for i in 0..line.count {
+        let at = 5 + 5 * i;
         let curve = line.curves[i];
-        let distance = line.distances[i + 1];
-        store_five(
-            &mut *numbers,
-            5 + 5 * i,
+        numbers[at..at + 5].copy_from_slice(&[
             side_bit(curve.left),
             curve.deflection,
             curve.radius,
             curve.spiral,
-            distance,
-        );
-        i += 1;
+            line.distances[i + 1],
+        ]);
     }
 }
 
 // The numbers of a line at the front of `numbers`. Answers how many there are, 5 + 5 × n, or refusal 3, over 64 curves, then 16; a refusal
 // leaves `numbers` as they were. Any line and any numbers are taken; entries from n on are not read.
-pub fn write(line: Line, numbers: &mut [u32]) -> FillAnswer
+#[tactic(auto, using(refusals::proofs::FillWays::refused_fill, refusals::proofs::FillWays::small_fill, refusals::proofs::FillWays::whole_fill, crate::proofs::Storing::line_length_lem))]
+pub fn write(line: Line, numbers: &mut [u32]) -> Result<usize, Refusal>
     ensures answer { fill_reply_of result ≡ (fill (few_check line) (line_numbers line) numbers.old).reply }
     ensures memory { numbers.new ≡ (fill (few_check line) (line_numbers line) numbers.old).buffer }
 {
-    let n = line.count;
-    if 64 < n {
-        return FillAnswer::Refused(Refusal::CurveCount);
-    }
-    let count = 5 + 5 * n;
-    if numbers.len() < count {
-        return FillAnswer::Refused(Refusal::SmallBuffer);
-    }
-    store_line(line, &mut *numbers);
-    FillAnswer::Count(count)
+    must(line.count <= 64, Refusal::CurveCount)?;
+    let count = 5 + 5 * line.count;
+    must(count <= numbers.len(), Refusal::SmallBuffer)?;
+    store_line(&line, numbers);
+    Ok(count)
 }

@@ -1,5 +1,5 @@
 -- The two editions: which numbers have one, that the head of both fits, and what follows from an edition's number. Assumes nothing.
-use mathlib.Core.Path.{◌≡◌, refl, sym, ◌∙◌, ap}
+use mathlib.Core.Path.{◌≡◌, refl, ◌∙◌, ap}
 use mathlib.Core.Bool.{Bool, true, false, cond}
 use mathlib.Core.Logic.{◌⊎◌, inl, inr}
 use mathlib.Core.List.{List}
@@ -8,8 +8,7 @@ use native.Mathlib.Omega.{arith}
 use lib.Dec.{eqb}
 use lib.ListN.{length}
 use borrow.Author.Tests.{eqb-true}
-use Rattle.refusals.specs.declared.Verdict.{Verdict}
-use Rattle.refusals.specs.Outcomes.{Outcome, passed, outcome_of, need, ◌▹◌}
+use Rattle.refusals.specs.Outcomes.{Outcome, passed, need, ◌▹◌}
 use Rattle.refusals.specs.Order.{outcome}
 use Rattle.refusals.proofs.Joining.{passed_left, passed_right, need_holds}
 use Rattle.line.specs.declared.Line.{Line}
@@ -90,12 +89,6 @@ edition_again number line ok =
 pub edition_holds : (sheet : List ℕ) → Holds (edition_of sheet)
 unfolding edition_of
 edition_holds sheet = numbered_holds _
-
--- The number beside a verdict.
-pub edition_beside : (sheet : List ℕ) (v : Verdict) {w : Verdict} {n : ℕ} → outcome_of v ≡ outcome (read_checks sheet) → v ≡ w
-    → n ≡ number_after (outcome_of w) (edition_of sheet).number → n ≡ read_edition sheet
-unfolding read_edition
-edition_beside sheet v answer e h = h ∙ ap (λ (o : Outcome). number_after o (edition_of sheet).number) (sym (ap outcome_of e) ∙ answer)
 
 -- The number that is reported where nothing is refused: that of the sheet's edition, which has it.
 pub reported : (sheet : List ℕ) → outcome (read_checks sheet) ≡ passed → read_edition sheet ≡ (edition_of sheet).number
