@@ -8,7 +8,7 @@ use lib.Dec.{leb, eqb}
 use lib.IntN.{ℤ}
 use lib.ListN.{length}
 use borrow.Author.Tests.{leb-true, eqb-true, eqb-false, le-leb, eq-eqb}
-use Rattle.numbers.proofs.Tests.{both_left, both_right}
+use Rattle.numbers.proofs.Tests.{both_left, both_right, clash}
 use Rattle.refusals.specs.Outcomes.{passed, refused, need, ◌▹◌}
 use Rattle.refusals.specs.Order.{outcome}
 use Rattle.refusals.proofs.Joining.{passed_left, passed_right, need_holds, join}
@@ -50,7 +50,7 @@ module _ (points : List ℤ) (curves : List ℕ) where
   either true false h = refl
   either false b h = refl
 
-  pub counts_refused : (Counted points curves → ⊥) → refused 3 0 ≡ outcome (count_checks points curves)
+  counts_refused : (Counted points curves → ⊥) → refused 3 0 ≡ outcome (count_checks points curves)
   unfolding count_checks
   counts_refused h = either Paired Ranged (λ p r. h (counts_pass (join (ap (λ (t : Bool). need t 3 0) p) (ap (λ (t : Bool). need t 3 0) r))))
 
@@ -59,21 +59,28 @@ module _ (points : List ℤ) (curves : List ℕ) where
   both true false p q = q
   both false b p q = p
 
-  pub counts_hold : Counted points curves → passed ≡ outcome (count_checks points curves)
+  counts_hold : Counted points curves → passed ≡ outcome (count_checks points curves)
   unfolding count_checks
   counts_hold h =
       let paired = both _ _ (eq-eqb (length points % 2) 0 (omega (arith, h.numbers))) (eq-eqb (length curves) (2 * curve_count points) h.designs) in
       let ranged = both _ _ (le-leb 2 (point_count points) (omega (arith, h.numbers))) (le-leb (point_count points) 66 (omega (arith, h.numbers, h.few))) in
       sym (join (ap (λ (t : Bool). need t 3 0) paired) (ap (λ (t : Bool). need t 3 0) ranged))
 
-  -- What decides where there are 2 to 66 points.
-  pub counts_decided : 4 ≤ length points → length points ≤ 132 → (length points % 2 ≡ 1 → ⊥)
-      → need (eqb (length curves) (length points - 4)) 3 0 ≡ outcome (count_checks points curves)
-  counts_decided least most odd = go (eqb (length curves) (length points - 4)) refl
+  -- The tests of the code, one after the other.
+  pub counts_tested : outcome (count_checks points curves)
+      ≡ (need (within 4 132 (length points)) 3 0 ▹ need (eqb (length points % 2) 0) 3 0 ▹ need (eqb (length curves) (length points - 4)) 3 0)
+  counts_tested = go (within 4 132 (length points)) refl (eqb (length points % 2) 0) refl (eqb (length curves) (length points - 4)) refl
     where
-      go : (t : Bool) → eqb (length curves) (length points - 4) ≡ t → need t 3 0 ≡ outcome (count_checks points curves)
-      go true e =
-          let even : length points % 2 ≡ 0 = omega arith in
-          let all = eqb-true (length curves) (length points - 4) e in
-          counts_hold (record { few = omega arith; numbers = omega arith; designs = omega arith })
-      go false e = counts_refused (λ h. eqb-false (length curves) (length points - 4) e (omega (arith, h.numbers, h.designs)))
+      go : (r : Bool) → within 4 132 (length points) ≡ r → (even : Bool) → eqb (length points % 2) 0 ≡ even
+          → (all : Bool) → eqb (length curves) (length points - 4) ≡ all
+          → outcome (count_checks points curves) ≡ (need r 3 0 ▹ need even 3 0 ▹ need all 3 0)
+      go false r even e all a =
+          sym (counts_refused (λ h. clash (both _ _ (le-leb 4 (length points) (omega (arith, h.numbers))) (le-leb (length points) 132 (omega (arith, h.numbers, h.few)))) r))
+      go true r false e all a = sym (counts_refused (λ h. eqb-false (length points % 2) 0 e (omega (arith, h.numbers))))
+      go true r true e false a = sym (counts_refused (λ h. eqb-false (length curves) (length points - 4) a (omega (arith, h.numbers, h.designs))))
+      go true r true e true a =
+          let even = eqb-true (length points % 2) 0 e in
+          let pairs = eqb-true (length curves) (length points - 4) a in
+          let least = leb-true 4 (length points) (both_left _ (leb (length points) 132) r) in
+          let most = leb-true (length points) 132 (both_right (leb 4 (length points)) _ r) in
+          sym (counts_hold (record { few = omega arith; numbers = omega arith; designs = omega arith }))

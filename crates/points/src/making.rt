@@ -33,10 +33,10 @@ fn seconds(across: i64, along: i64) -> u32
 }
 
 // Side and turn at the PI of entry i.
-fn bend_at(points: CheckedPoints, i: usize) -> Bend
-    requires { i < curve_count points.points.now }
-    ensures left { result.left ≡ lt_z (pos 0) (cross_at points.points.now i) }
-    ensures seconds { result.seconds ≡ seconds_of (cross_at points.points.now i) (dot_at points.points.now i) }
+fn bend_at(points: &CheckedPoints, i: usize) -> Bend
+    requires { i < curve_count points.now.points.now }
+    ensures left { result.left ≡ lt_z (pos 0) (cross_at points.now.points.now i) }
+    ensures seconds { result.seconds ≡ seconds_of (cross_at points.now.points.now i) (dot_at points.now.points.now i) }
 {
     let into = points.leg(i);
     let out = points.leg(i + 1);
@@ -57,12 +57,12 @@ fn check_turn(turned: u32, place: u16) -> Result<(), Refusal>
 
 // The line of points that pass 3 and 18, or the first refusal: 8 by ascending distance, 20 and 19 point by point, then the calculator's.
 fn line_of_legs(
-    points: CheckedPoints,
+    points: &CheckedPoints,
     speed: u32,
     crossfall: u32,
     start: u32,
 ) -> Result<Line, Refusal>
-    ensures { Made (leg_checks speed crossfall start points.points.now points.designs.now) (line_from speed crossfall start points.points.now points.designs.now) result }
+    ensures { Made (leg_checks speed crossfall start points.now.points.now points.now.designs.now) (line_from speed crossfall start points.now.points.now points.now.designs.now) result }
 {
     let n = points.curves();
     let mut line = blank_line();
@@ -106,5 +106,5 @@ pub fn line_from_points(
     ensures line { IfOk result (λ line. line ≡ line_from speed crossfall start points.now curves.now) }
 {
     let checked = CheckedPoints::check(points, curves)?;
-    line_of_legs(checked, speed, crossfall, start)
+    line_of_legs(&checked, speed, crossfall, start)
 }

@@ -11,11 +11,10 @@ use Rattle.points.proofs.making.bend_at.Goals as goal
 
 pub returns : goal.returns
 returns c =
-    let points = c.args.points.now in
-    let into = c.leg-into.ensures.0 in
-    let out = c.leg-out.ensures.0 ∙ ap (leg_at points) (add-one c.args.i) in
+    let into = c.leg-into.ensures in
+    let out = c.leg-out.ensures ∙ ap (leg_at c.args.points.now.points.now) (add-one c.args.i) in
     let cross = c.cross-across in
-    let dot = c.dot-along in
-    let across = held cross.result (omega (arith, cross.ensures.1)) ∙ cross.ensures.0 ∙ (λ j. cross_of (into j) (out j)) in
-    let along = held dot.result (omega (arith, dot.ensures.1)) ∙ dot.ensures.0 ∙ (λ j. dot_of (into j) (out j)) in
-    (ap (lt_z (pos 0)) across, c.seconds.ensures ∙ (λ j. seconds_of (across j) (along j)))
+    let dot = c.dot in
+    let across = held cross.result (omega (arith, cross.ensures.bound)) ∙ cross.ensures.value ∙ (λ j. cross_of (into j) (out j)) in
+    let along = held dot.result (omega (arith, dot.ensures.bound)) ∙ dot.ensures.value ∙ (λ j. dot_of (into j) (out j)) in
+    record { left = ap (lt_z (pos 0)) across; seconds = c.seconds.ensures ∙ (λ j. seconds_of (across j) (along j)) }
