@@ -2,10 +2,12 @@
 #![tactic(auto)]
 
 mod lengths;
+mod measured;
 mod row;
 mod tables;
 
 pub use lengths::line_lengths;
+pub use measured::MeasuredLine;
 pub use row::stations;
 
 // The straights and the arcs of a line, in µm: straight i is that of distance i (0 to n), arc i that of curve i + 1. Unused entries are 0.

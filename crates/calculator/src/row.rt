@@ -1,15 +1,12 @@
 // The row of stations, in µm, at the front of the caller's numbers.
 ghost use Rattle.std.specs.Prelude.{◌≡◌, ◌++◌, ◌+◌, ◌≤◌, length, take, drop};
-ghost use Rattle.refusals.specs.Outcomes.{passed};
 ghost use Rattle.refusals.specs.Filling.{fill_reply_of, fill};
-ghost use Rattle.refusals.specs.Order.{unchecked, outcome};
+ghost use Rattle.refusals.specs.Order.{unchecked};
 ghost use Rattle.stationing.specs.Stations.{station_row};
-ghost use Rattle.stationing.specs.Answer.{alignment_checks, stations_in};
+ghost use Rattle.stationing.specs.Answer.{stations_in};
 ghost use Rattle.stationing.specs.Arrays.{four_from};
-ghost use Rattle.calculator.specs.Lengths.{lengths_of, lengths_by};
 
-use crate::LineLengths;
-use crate::lengths::line_lengths;
+use crate::MeasuredLine;
 use line::Line;
 use refusals::Refusal;
 
@@ -28,33 +25,33 @@ fn store_curve(row: &mut [u64], at: usize, former: u64, straight: u64, spiral: u
     st
 }
 
-// Refusal 16, or the row of a line whose lengths are known.
-#[tactic(auto, unfolding(refusals::specs::Filling::fill, refusals::specs::Filling::with_room), using(stationing::proofs::Accepted::few, stationing::proofs::RowCount::row_count))]
-fn fill(line: Line, lengths: LineLengths, row: &mut [u64]) -> Result<usize, Refusal>
-    requires line_value { outcome (alignment_checks line) ≡ passed }
-    requires lengths_value { lengths_of lengths ≡ lengths_by line }
-    ensures result_value { fill_reply_of result ≡ (fill unchecked (station_row line) row.old).reply }
-    ensures row_after { row.new ≡ (fill unchecked (station_row line) row.old).buffer }
-{
-    let n = line.count;
-    let count = 4 * n + 1;
-    if row.len() < count {
-        return Err(Refusal::SmallBuffer);
+impl MeasuredLine {
+    // Refusal 16, or the row.
+    #[tactic(auto, unfolding(refusals::specs::Filling::fill, refusals::specs::Filling::with_room), using(stationing::proofs::Accepted::few, stationing::proofs::RowCount::row_count))]
+    fn store(&self, row: &mut [u64]) -> Result<usize, Refusal>
+        ensures answer { fill_reply_of result ≡ (fill unchecked (station_row self.now.line) row.old).reply }
+        ensures memory { row.new ≡ (fill unchecked (station_row self.now.line) row.old).buffer }
+    {
+        let n = self.line.count;
+        let count = 4 * n + 1;
+        if row.len() < count {
+            return Err(Refusal::SmallBuffer);
+        }
+        let mut station = 1000 * u64::from(self.line.start);
+        for i in 0..n {
+            let spiral = 1000 * u64::from(self.line.curves[i].spiral);
+            station = store_curve(
+                row,
+                4 * i,
+                station,
+                self.lengths.straights[i],
+                spiral,
+                self.lengths.arcs[i],
+            );
+        }
+        row[4 * n] = station + self.lengths.straights[n];
+        Ok(count)
     }
-    let mut station = 1000 * u64::from(line.start);
-    for i in 0..n {
-        let spiral = 1000 * u64::from(line.curves[i].spiral);
-        station = store_curve(
-            row,
-            4 * i,
-            station,
-            lengths.straights[i],
-            spiral,
-            lengths.arcs[i],
-        );
-    }
-    row[4 * n] = station + lengths.straights[n];
-    Ok(count)
 }
 
 // The stations of a line by document 01's working rule (after source document 002, with document 02's changes), in µm: TS, SC, CS and ST
@@ -66,6 +63,5 @@ pub fn stations(line: Line, row: &mut [u64]) -> Result<usize, Refusal>
     ensures answer { fill_reply_of result ≡ (stations_in line row.old).reply }
     ensures memory { row.new ≡ (stations_in line row.old).buffer }
 {
-    let lengths = line_lengths(line)?;
-    fill(line, lengths, row)
+    MeasuredLine::new(line)?.store(row)
 }
