@@ -1,12 +1,8 @@
 -- The lengths of a line's straights and arcs, in µm (document 01, "Working rule"), and what the private steps of the call for them promise.
-use Rattle.std.specs.Prelude.{◌≡◌, List, map, suc, ℤ, pos, replicate}
-use Rattle.refusals.specs.declared.Verdict.TheVariants.{Pass}
-use Rattle.refusals.specs.Outcomes.{Outcome, passed, refused, outcome_of}
-use Rattle.refusals.specs.Order.{Checks, in_turn, outcome}
+use Rattle.std.specs.Prelude.{List, map, suc, ℤ, pos}
 use Rattle.line.specs.declared.Line.{Line}
 use Rattle.line.specs.Entries.{entries}
 use Rattle.stationing.specs.Stations.{arc_at, straight_at}
-use Rattle.stationing.specs.Answer.{design_checks_at}
 use Rattle.stationing.specs.Arrays.{TangentsTo, ArcsTo}
 use Rattle.calculator.specs.declared.LineLengths.{LineLengths}
 use Rattle.calculator.specs.declared.lengths.CurveLengths.{CurveLengths}
@@ -28,24 +24,9 @@ lengths_by line =
       arcs = entries 64 line.count (arc_at line) (pos 0);
     }
 
--- No lengths: all are 0.
-abbrev pub no_lengths : Lengths
-no_lengths = record { straights = replicate 65 (pos 0); arcs = replicate 64 (pos 0) }
-
--- The lengths beside the outcome of the checks: after a refusal there are none (docs/DECISIONS.md).
-abbrev pub lengths_after : Outcome → Lengths → Lengths
-lengths_after passed lengths = lengths
-lengths_after (refused number place) lengths = no_lengths
-
 -- ---- the private steps
 
--- These checks, and the lengths beside their outcome.
-pub record LengthsChecked (checks : Checks) (line : Line) (l : LineLengths) : Type 0 where
-  pub checked : outcome_of l.verdict ≡ outcome checks
-  pub lengths : lengths_of l ≡ lengths_after (outcome checks) (lengths_by line)
-
--- 12 to 14, and where they pass the tangents and the arcs.
+-- The tangents and the arcs of a line's curves.
 pub record CurvesOf (line : Line) (c : CurveLengths) : Type 0 where
-  pub outcome : outcome_of c.verdict ≡ outcome (in_turn (design_checks_at line) line.count)
-  pub tangents : c.verdict ≡ Pass → TangentsTo line line.count c.tangents
-  pub arcs : c.verdict ≡ Pass → ArcsTo line line.count c.arcs
+  pub tangents : TangentsTo line line.count c.tangents
+  pub arcs : ArcsTo line line.count c.arcs

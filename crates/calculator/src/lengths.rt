@@ -1,127 +1,81 @@
 // The lengths of a line's straights and arcs, in µm, with the calculator's checks 3 to 15.
-ghost use Rattle.std.specs.Prelude.{◌≡◌, suc};
+ghost use Rattle.std.specs.Prelude.{◌≡◌, suc, IfOk};
 ghost use Rattle.refusals.specs.Outcomes.{outcome_of};
 ghost use Rattle.refusals.specs.Order.{in_turn, outcome};
 ghost use Rattle.line.specs.Ranges.{LineInRange};
-ghost use Rattle.stationing.specs.Answer.{straight_check, alignment_checks};
-ghost use Rattle.stationing.specs.Arrays.{TangentsTo, ArcsTo};
-ghost use Rattle.calculator.specs.Lengths.{no_lengths, lengths_of, lengths_by, lengths_after, LengthsChecked, CurvesOf};
+ghost use Rattle.stationing.specs.Answer.{design_checks_at, straight_check, alignment_checks};
+ghost use Rattle.calculator.specs.Lengths.{lengths_of, lengths_by, CurvesOf};
 
 use crate::LineLengths;
-use crate::tables::check_least;
-use elements::{ElementAnswer, curve_elements};
+use crate::tables::DesignSpeed;
+use elements::curve_elements;
 use line::{Line, check_line};
-use refusals::{Refusal, Verdict};
+use refusals::{Refusal, must};
 
-// The tangents and the arcs of a line's curves; beside a refusal they mean nothing.
+// The tangents and the arcs of a line's curves.
 #[derive(Clone, Copy)]
 struct CurveLengths {
-    verdict: Verdict,
     // One entry more than there can be curves: no tangent follows the last distance.
     tangents: [u64; 65],
     arcs: [u64; 64],
 }
 
 // Refusals 12, 13 and 14, curve by curve, and the lengths of each curve, whose elements are computed once.
-fn curve_lengths(line: Line) -> CurveLengths
+fn curve_lengths(line: Line) -> Result<CurveLengths, Refusal>
     requires { LineInRange line }
-    ensures { CurvesOf line result }
+    ensures answer { outcome_of result ≡ outcome (in_turn (design_checks_at line) line.count) }
+    ensures curves { IfOk result (CurvesOf line) }
 {
-    let n = line.count;
-    let speed = line.speed as u64;
-    let crossfall = line.crossfall as u64;
+    let speed = DesignSpeed { km_h: line.speed };
     let mut lengths = CurveLengths {
-        verdict: Verdict::Pass,
         tangents: [0; 65],
         arcs: [0; 64],
     };
-    let mut i = 0;
-    while i < n {
+    for i in 0..line.count {
         let curve = line.curves[i];
         let place = (i + 1) as u16;
-        let least = check_least(
-            speed,
-            crossfall,
-            curve.radius as u64,
-            curve.spiral as u64,
-            place,
-        );
-        let Verdict::Pass = least else {
-            return CurveLengths {
-                verdict: least,
-                tangents: [0; 65],
-                arcs: [0; 64],
-            };
-        };
-        let answer = curve_elements(curve.deflection, curve.radius, curve.spiral);
-        let ElementAnswer::Found(e) = answer else {
-            return CurveLengths {
-                verdict: Verdict::Refused(Refusal::ShortArc(place)),
-                tangents: [0; 65],
-                arcs: [0; 64],
-            };
+        speed.check_least(line.crossfall, curve, place)?;
+        let Ok(e) = curve_elements(curve.deflection, curve.radius, curve.spiral) else {
+            return Err(Refusal::ShortArc(place));
         };
         lengths.tangents[i] = e.tangent;
         lengths.arcs[i] = e.arc;
-        i += 1;
     }
-    lengths
-}
-
-// A refusal, with no lengths.
-fn no_lengths(verdict: Verdict) -> LineLengths
-    ensures { (result.verdict ≡ verdict) × (lengths_of result ≡ no_lengths) }
-{
-    LineLengths {
-        verdict,
-        straights: [0; 65],
-        arcs: [0; 64],
-    }
+    Ok(lengths)
 }
 
 // Refusal 15, by ascending distance, and the straights: each distance less the tangents of the curves at its ends.
-fn with_straights(line: Line, curves: CurveLengths) -> LineLengths
+fn with_straights(line: Line, curves: CurveLengths) -> Result<LineLengths, Refusal>
     requires line_in_range { LineInRange line }
-    requires tangents_to { TangentsTo line line.count curves.tangents × ArcsTo line line.count curves.arcs }
-    ensures { LengthsChecked (in_turn (straight_check line) (suc line.count)) line result }
+    requires curves_of { CurvesOf line curves }
+    ensures answer { outcome_of result ≡ outcome (in_turn (straight_check line) (suc line.count)) }
+    ensures lengths { IfOk result (λ l. lengths_of l ≡ lengths_by line) }
 {
-    let n = line.count;
     let mut lengths = LineLengths {
-        verdict: Verdict::Pass,
         straights: [0; 65],
         arcs: curves.arcs,
     };
-    let mut before: u64 = 0;
-    let mut i = 0;
-    while i <= n {
+    let mut before = 0;
+    for i in 0..line.count + 1 {
         let after = curves.tangents[i];
-        let distance = 1000 * (line.distances[i] as u64);
+        let distance = 1000 * u64::from(line.distances[i]);
         let ends = before + after;
-        if distance < ends + 1000 {
-            return no_lengths(Verdict::Refused(Refusal::ShortStraight(i as u16)));
-        }
+        must(ends + 1000 <= distance, Refusal::ShortStraight(i as u16))?;
         lengths.straights[i] = distance - ends;
         before = after;
-        i += 1;
     }
-    lengths
+    Ok(lengths)
 }
 
-// The lengths of a line's straights and arcs by document 01's working rule, in µm, beside the verdict of the calculator's checks: the first
-// refusal in the order 3 to 6, 8 to 11, then 12, 13, 14 curve by curve, then 15 by ascending distance. After a refusal, and in unused
-// entries, the lengths are 0. Any line is taken; unused entries and the sides of the curves change nothing.
-pub fn line_lengths(line: Line) -> LineLengths
-    ensures verdict { outcome_of result.verdict ≡ outcome (alignment_checks line) }
-    ensures lengths { lengths_of result ≡ lengths_after (outcome (alignment_checks line)) (lengths_by line) }
+// The lengths of a line's straights and arcs by document 01's working rule, in µm, or the calculator's first refusal in the order 3 to 6,
+// 8 to 11, then 12, 13, 14 curve by curve, then 15 by ascending distance. In unused entries the lengths are 0. Any line is taken; unused
+// entries and the sides of the curves change nothing.
+#[tactic(auto, unfolding(stationing::specs::Answer::alignment_checks), using(line::proofs::InRange::line_in_range))]
+pub fn line_lengths(line: Line) -> Result<LineLengths, Refusal>
+    ensures verdict { outcome_of result ≡ outcome (alignment_checks line) }
+    ensures lengths { IfOk result (λ l. lengths_of l ≡ lengths_by line) }
 {
-    let fields = check_line(line);
-    let Verdict::Pass = fields else {
-        return no_lengths(fields);
-    };
-    let curves = curve_lengths(line);
-    let designs = curves.verdict;
-    let Verdict::Pass = designs else {
-        return no_lengths(designs);
-    };
+    check_line(line)?;
+    let curves = curve_lengths(line)?;
     with_straights(line, curves)
 }

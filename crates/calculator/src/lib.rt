@@ -2,18 +2,17 @@
 #![tactic(auto)]
 
 mod lengths;
+mod measured;
 mod row;
 mod tables;
 
 pub use lengths::line_lengths;
-use refusals::Verdict;
+pub use measured::MeasuredLine;
 pub use row::stations;
 
-// The straights and the arcs of a line, in µm: straight i is that of distance i (0 to n), arc i that of curve i + 1. Unused entries are 0,
-// and all are beside a refusal.
+// The straights and the arcs of a line, in µm: straight i is that of distance i (0 to n), arc i that of curve i + 1. Unused entries are 0.
 #[derive(Clone, Copy)]
 pub struct LineLengths {
-    pub verdict: Verdict,
     pub straights: [u64; 65],
     pub arcs: [u64; 64],
 }

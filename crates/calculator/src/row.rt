@@ -1,17 +1,14 @@
 // The row of stations, in µm, at the front of the caller's numbers.
 ghost use Rattle.std.specs.Prelude.{◌≡◌, ◌++◌, ◌+◌, ◌≤◌, length, take, drop};
-ghost use Rattle.refusals.specs.Outcomes.{passed};
 ghost use Rattle.refusals.specs.Filling.{fill_reply_of, fill};
-ghost use Rattle.refusals.specs.Order.{unchecked, outcome};
+ghost use Rattle.refusals.specs.Order.{unchecked};
 ghost use Rattle.stationing.specs.Stations.{station_row};
-ghost use Rattle.stationing.specs.Answer.{alignment_checks, stations_in};
+ghost use Rattle.stationing.specs.Answer.{stations_in};
 ghost use Rattle.stationing.specs.Arrays.{four_from};
-ghost use Rattle.calculator.specs.Lengths.{lengths_of, lengths_by};
 
-use crate::LineLengths;
-use crate::lengths::line_lengths;
+use crate::MeasuredLine;
 use line::Line;
-use refusals::{FillAnswer, Refusal, Verdict};
+use refusals::Refusal;
 
 // TS, SC, CS and ST of a curve after the station `former`, stored from `at` on; ST is returned.
 fn store_curve(row: &mut [u64], at: usize, former: u64, straight: u64, spiral: u64, arc: u64) -> u64
@@ -24,55 +21,47 @@ fn store_curve(row: &mut [u64], at: usize, former: u64, straight: u64, spiral: u
     let sc = ts + spiral;
     let cs = sc + arc;
     let st = cs + spiral;
-    row[at] = ts;
-    row[at + 1] = sc;
-    row[at + 2] = cs;
-    row[at + 3] = st;
+    row[at..at + 4].copy_from_slice(&[ts, sc, cs, st]);
     st
 }
 
-// Refusal 16, or the row of a line whose lengths are known.
-fn fill(line: Line, lengths: LineLengths, row: &mut [u64]) -> FillAnswer
-    requires line_value { outcome (alignment_checks line) ≡ passed }
-    requires lengths_value { lengths_of lengths ≡ lengths_by line }
-    ensures result_value { fill_reply_of result ≡ (fill unchecked (station_row line) row.old).reply }
-    ensures row_after { row.new ≡ (fill unchecked (station_row line) row.old).buffer }
-{
-    let n = line.count;
-    let count = 4 * n + 1;
-    if row.len() < count {
-        return FillAnswer::Refused(Refusal::SmallBuffer);
+impl MeasuredLine {
+    // Refusal 16, or the row.
+    #[tactic(auto, unfolding(refusals::specs::Filling::fill, refusals::specs::Filling::with_room), using(stationing::proofs::Accepted::few, stationing::proofs::RowCount::row_count))]
+    fn store(&self, row: &mut [u64]) -> Result<usize, Refusal>
+        ensures answer { fill_reply_of result ≡ (fill unchecked (station_row self.now.line) row.old).reply }
+        ensures memory { row.new ≡ (fill unchecked (station_row self.now.line) row.old).buffer }
+    {
+        let n = self.line.count;
+        let count = 4 * n + 1;
+        if row.len() < count {
+            return Err(Refusal::SmallBuffer);
+        }
+        let mut station = 1000 * u64::from(self.line.start);
+        for i in 0..n {
+            let spiral = 1000 * u64::from(self.line.curves[i].spiral);
+            station = store_curve(
+                row,
+                4 * i,
+                station,
+                self.lengths.straights[i],
+                spiral,
+                self.lengths.arcs[i],
+            );
+        }
+        row[4 * n] = station + self.lengths.straights[n];
+        Ok(count)
     }
-    let mut station = 1000 * (line.start as u64);
-    let mut i = 0;
-    while i < n {
-        let spiral = line.curves[i].spiral;
-        station = store_curve(
-            &mut *row,
-            4 * i,
-            station,
-            lengths.straights[i],
-            1000 * (spiral as u64),
-            lengths.arcs[i],
-        );
-        i += 1;
-    }
-    row[4 * n] = station + lengths.straights[n];
-    FillAnswer::Count(count)
 }
 
 // The stations of a line by document 01's working rule (after source document 002, with document 02's changes), in µm: TS, SC, CS and ST
 // of each curve in order, then the end, at the front of `row`. Answers how many there are, 4 × n + 1, or the first refusal in document 01's
 // order: 3 to 6, 8 to 11, then 12, 13, 14 curve by curve, then 15 by ascending distance, then 16; a refusal leaves `row` as
 // it was. Any line and any row are taken; unused entries and the sides of the curves change nothing.
-pub fn stations(line: Line, row: &mut [u64]) -> FillAnswer
+#[tactic(auto, unfolding(stationing::specs::Answer::stations_in, refusals::specs::Filling::fill, refusals::specs::Filling::with_room))]
+pub fn stations(line: Line, row: &mut [u64]) -> Result<usize, Refusal>
     ensures answer { fill_reply_of result ≡ (stations_in line row.old).reply }
     ensures memory { row.new ≡ (stations_in line row.old).buffer }
 {
-    let lengths = line_lengths(line);
-    let verdict = lengths.verdict;
-    match verdict {
-        Verdict::Refused(refusal) => FillAnswer::Refused(refusal),
-        Verdict::Pass => fill(line, lengths, row),
-    }
+    MeasuredLine::new(line)?.store(row)
 }

@@ -1,5 +1,6 @@
 -- One straight more: a distance less the tangents at its ends, tested and measured on natural numbers. Assumes nothing.
 use mathlib.Core.Path.{◌≡◌, sym, ◌∙◌, ap}
+use mathlib.Core.Bool.{Bool}
 use mathlib.Core.List.{List}
 use Prim.Native.Nat.{ℕ, ◌+◌, ◌-◌, ◌*◌, ◌<◌, ◌≤◌}
 use native.Mathlib.Numerals.{add-one}
@@ -9,9 +10,9 @@ use lib.Dec.{leb}
 use lib.IntN.{pos, ◌-ℤ◌}
 use lib.ListN.{get_or}
 use lib.Signed.{le_z}
-use borrow.Author.Tests.{lt-ltb, le-ltb, lt-leb, le-leb}
+use borrow.Author.Tests.{lt-ltb, le-ltb}
 use Rattle.numbers.proofs.Differences.{minus_le, minus_minus, reaches}
-use Rattle.refusals.specs.Outcomes.{passed, refused}
+use Rattle.refusals.specs.Outcomes.{need}
 use Rattle.refusals.specs.Order.{outcome}
 use Rattle.line.specs.declared.Line.{Line}
 use Rattle.line.specs.Checks.{distance_at}
@@ -49,13 +50,10 @@ module _ (line : Line) (i : ℕ) {before after : ℕ} (b : pos before ≡ tangen
   pub straight_reaches : le_z (pos 1000) (straight_at line i) ≡ leb (before + after + 1000) (1000 * distance_at line i)
   straight_reaches = ap (le_z (pos 1000)) straight_is ∙ reaches (1000 * distance_at line i) (before + after) 1000
 
-  pub short_straight : 1000 * distance_at line i < before + after + 1000 → outcome (straight_check line i) ≡ refused 15 i
+  -- Refusal 15 on natural numbers.
+  pub straight_checked : outcome (straight_check line i) ≡ need (leb (before + after + 1000) (1000 * distance_at line i)) 15 i
   unfolding straight_check
-  short_straight h = rw (straight_reaches, lt-leb _ _ h)
-
-  pub long_straight : before + after + 1000 ≤ 1000 * distance_at line i → outcome (straight_check line i) ≡ passed
-  unfolding straight_check
-  long_straight h = rw (straight_reaches, le-leb _ _ h)
+  straight_checked = ap (λ (t : Bool). need t 15 i) straight_reaches
 
   pub straight_length : before + after ≤ 1000 * distance_at line i → pos (1000 * distance_at line i - (before + after)) ≡ straight_at line i
   straight_length h = sym (minus_le h) ∙ sym straight_is
