@@ -95,6 +95,7 @@ fn line_of_legs(
 // product is above zero. Unused entries are zero. Or the first refusal: 3 (other than two numbers for each point and for each PI, or other
 // than 2 to 66 points), 18 (a coordinate beyond 10,000,000 mm either way), 8 by ascending distance, 20 and 19 point by point, then the
 // calculator's 3 to 15. Any numbers are taken.
+#[tactic(auto, unfolding(coordinates::specs::FromPoints::from_points_checks))]
 pub fn line_from_points(
     points: &[i64],
     curves: &[u32],

@@ -1,10 +1,10 @@
 -- `check_coordinates`: the first coordinate out of range refuses. Assumes nothing.
-use mathlib.Core.Path.{◌≡◌, sym}
+use mathlib.Core.Path.{◌≡◌}
 use native.Mathlib.Omega.{arith}
 use lib.ListN.{length}
 use borrow.Author.Rules.{rules}
 use Rattle.refusals.specs.Table.{number_of, place_of}
-use Rattle.refusals.specs.Outcomes.{refused, first_of}
+use Rattle.refusals.specs.Outcomes.{refused}
 use Rattle.refusals.specs.Order.{outcome}
 use Rattle.refusals.proofs.InTurn.{first_refused}
 use Rattle.coordinates.specs.FromPoints.{coordinate_check}

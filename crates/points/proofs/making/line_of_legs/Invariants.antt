@@ -12,7 +12,7 @@ abbrev pub invariant-loop-i : goal.invariant-loop-i
 invariant-loop-i l =
     record {
       passed : outcome (in_turn (length_check l.points.points.now) l.i) ≡ passed;
-      filled : l.line ≡ line_to l.speed l.crossfall l.start l.points.points.now l.points.designs.now l.i 0
+      filled : l.line ≡ line_to l.speed l.crossfall l.start l.points.points.now l.points.designs.now l.i 0;
     }
 
 abbrev pub invariant-loop-k : goal.invariant-loop-k
@@ -20,5 +20,5 @@ invariant-loop-k l =
     record {
       distances : outcome (in_turn (length_check l.points.points.now) (suc l.n)) ≡ passed;
       passed : outcome (in_turn (turn_checks l.points.points.now) l.k) ≡ passed;
-      filled : l.line ≡ line_to l.speed l.crossfall l.start l.points.points.now l.points.designs.now (suc l.n) l.k
+      filled : l.line ≡ line_to l.speed l.crossfall l.start l.points.points.now l.points.designs.now (suc l.n) l.k;
     }
