@@ -79,8 +79,3 @@ read_cleared s e =
     let E : Edition = edition_of s in
     let line = ap (λ (o : Outcome). line_after o (line_of E s)) e in
     ap cleared line ∙ line_cleared E s (framed E s (frame_passes E s e)) ∙ sym line
-
--- The same of an answer of the reader's: its edition and line, where nothing is refused, have the sheet that was read.
-pub answer_again : (s : List ℕ) {o : Outcome} {edition : ℕ} {line : Line} → Bytes s → o ≡ outcome (read_checks s) → edition ≡ read_edition s → line ≡ read_line s
-    → o ≡ passed → sheet_of (numbered edition) line ≡ s
-answer_again s bytes answer n l e = (λ j. sheet_of (numbered (n j)) (l j)) ∙ read_written s bytes (sym answer ∙ e)

@@ -2,22 +2,17 @@
 ghost use Rattle.std.specs.Prelude.{◌≡◌, ◌+◌, ◌-◌, ◌*◌, ◌/◌, ◌^◌, ◌<◌, ◌≤◌, length, take};
 ghost use Rattle.bits.specs.Bits.{value_of, bits_at};
 
-fn wide(byte: u8) -> u32
-    ensures { (result ≡ byte) × (result < 256) }
-{
-    byte as u32
-}
-
 // The number that the four bytes from `first` on spell.
 fn word_at(sheet: &[u8], first: usize) -> u32
     requires { first + 4 ≤ length sheet.now }
     ensures { value_of (take (first + 4) sheet.now) ≡ value_of (take first sheet.now) * 2 ^ 32 + result }
 {
-    let a = wide(sheet[first]);
-    let b = wide(sheet[first + 1]);
-    let c = wide(sheet[first + 2]);
-    let d = wide(sheet[first + 3]);
-    ((a * 256 + b) * 256 + c) * 256 + d
+    u32::from_be_bytes([
+        sheet[first],
+        sheet[first + 1],
+        sheet[first + 2],
+        sheet[first + 3],
+    ])
 }
 
 // The number in the `width` bits from bit `from` on. Four bytes hold a field of up to 25 bits wherever it begins.
@@ -43,6 +38,5 @@ pub(crate) fn last_bits(sheet: &[u8], width: usize) -> u32
     requires { (width < 8) × (1 ≤ length sheet.now) }
     ensures { result ≡ bits_at sheet.now (8 * length sheet.now - width) width }
 {
-    let last = sheet.len() - 1;
-    wide(sheet[last]) % (1 << width)
+    u32::from(sheet[sheet.len() - 1]) % (1 << width)
 }

@@ -5,7 +5,7 @@ ghost use Rattle.refusals.specs.Order.{outcome};
 ghost use Rattle.packed_sheet.specs.Layout.{numbered, edition_check, entry_at, bit_count, byte_count};
 
 use packed_sheet::Edition;
-use refusals::{Refusal, Verdict, must};
+use refusals::{Refusal, must};
 
 // The head, before the start.
 pub(crate) const EDITION: usize = 4;
@@ -39,29 +39,31 @@ pub(crate) const SIZE: usize = RADIUS + SPIRAL;
 const ENTRY: usize = TURN + SIZE;
 
 // The edition of a number. Any number but 1 and 2 has none: it gets edition 1, whose number it is not.
+#[tactic(auto, unfolding(packed_sheet::specs::Layout::numbered))]
 pub fn edition_numbered(number: u32) -> Edition
     ensures { result ≡ numbered number }
 {
     if number == 2 {
-        return Edition {
+        Edition {
             number: 2,
             width: 32,
             greatest: 4000000000,
-        };
-    }
-    Edition {
-        number: 1,
-        width: 28,
-        greatest: 200000000,
+        }
+    } else {
+        Edition {
+            number: 1,
+            width: 28,
+            greatest: 200000000,
+        }
     }
 }
 
 // Refusal 2: an edition's number.
-pub fn check_edition(number: u32) -> Verdict
+#[tactic(auto, unfolding(packed_sheet::specs::Layout::edition_check))]
+pub fn check_edition(number: u32) -> Result<(), Refusal>
     ensures { outcome_of result ≡ outcome (edition_check number) }
 {
-    let edition = edition_numbered(number);
-    must(number == edition.number, Refusal::Edition)
+    must(number == edition_numbered(number).number, Refusal::Edition)
 }
 
 // The bit where distance `i` begins; the curve after it follows.
@@ -85,5 +87,5 @@ pub(crate) fn byte_count(edition: Edition, n: usize) -> usize
     requires { (n < 128) × (edition.width ≤ 32) }
     ensures { result ≡ byte_count edition n }
 {
-    (bit_count(edition, n) + 7) / 8
+    bit_count(edition, n).div_ceil(8)
 }

@@ -8,5 +8,5 @@ mod reader;
 mod writer;
 
 pub use layout::{check_edition, edition_numbered};
-pub use reader::{ReadAnswer, read};
+pub use reader::{SheetLine, read};
 pub use writer::write;

@@ -1,7 +1,10 @@
 -- `word_at` meets its contract. Assumes nothing.
+use mathlib.Core.Path.{refl}
+use native.Mathlib.Omega.{arith}
 use Rattle.bits.proofs.Bytes.{four_more}
 use Rattle.sheet.proofs.fields.word_at.Goals as goal
 
 pub returns : goal.returns
 returns c =
-    four_more _ _ _ _ _ _ c.requires c.wide-a.ensures.0 c.wide-b.ensures.0 c.wide-c.ensures.0 c.wide-d.ensures.0
+    let more = four_more c.args.sheet.now c.args.first _ _ _ _ c.requires refl refl refl refl in
+    omega (arith, more, c.from_be_bytes.ensures)

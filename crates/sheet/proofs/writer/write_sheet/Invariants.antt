@@ -1,21 +1,21 @@
--- `write_sheet` meets its contract: after i turns the head and the first i entries are put, and what is stored of them was stored byte by byte.
--- Assumes nothing.
+-- `write_sheet`: after i turns the pen has come to entry i, and what is stored of the sheet was stored byte by byte. Assumes nothing.
 use mathlib.Core.Path.{◌≡◌}
-use Prim.Native.Nat.{◌-◌, ◌≤◌}
-use lib.ListN.{length}
 use Rattle.packed_sheet.specs.Layout.{entry_at}
 use Rattle.packed_sheet.specs.EachStore.{Stores}
-use Rattle.sheet.specs.Pens.{position, Begun, Waits}
+use Rattle.sheet.specs.Pens.{position, Come}
 use Rattle.sheet.proofs.writer.write_sheet.Given as goal
 
-abbrev pub invariant-loop-i : goal.invariant-loop-i
-invariant-loop-i l = (l.i ≤ l.n)
-    × (l.n ≤ 64)
-    × (position l.pen ≡ entry_at l.edition l.i)
-    × (length l.bytes ≡ length l.initial.bytes)
-    × Begun l.edition l.line l.bytes l.pen.at
-    × Waits l.edition l.line l.pen
-    × Stores l.edition l.line 0 l.initial.bytes l.pen.at l.bytes
+-- What is called here stores the sheet that is told of:
+-- the arguments of a call do not name it.
+abbrev pub ghost-put : goal.ghost-put
+ghost-put g a = g.told
 
-abbrev pub decreases-loop-i : goal.decreases-loop-i
-decreases-loop-i l = l.n - l.i
+abbrev pub ghost-put_end : goal.ghost-put_end
+ghost-put_end g a = g.told
+
+abbrev pub invariant-loop-i : goal.invariant-loop-i
+invariant-loop-i g l = record {
+  at : position l.pen ≡ entry_at g.told.edition l.i;
+  come : Come g.told l.bytes l.pen;
+  stores : Stores g.told.edition g.told.line 0 l.initial.bytes l.pen.at l.bytes;
+}
