@@ -1,5 +1,4 @@
 -- Laws of the element under a station.
-pub mod Sides
 pub mod ElementLengths
 pub mod Walking
 pub mod PegsOfALine

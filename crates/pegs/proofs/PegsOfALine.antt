@@ -29,7 +29,7 @@ use Rattle.stationing.specs.Answer.{alignment_checks}
 use Rattle.stationing.proofs.Accepted.{Accepted, accepted}
 use Rattle.pegs.specs.Pegs.{along_line, sided, PegValues, peg_by, station_check, peg_checks, peg_reply}
 use Rattle.pegs.specs.Steps.{plain_peg, spiral_peg, peg_in_curve}
-use Rattle.pegs.proofs.Sides.{size_negative}
+use Rattle.numbers.proofs.Signs.{size_negative}
 use Rattle.pegs.proofs.Walking.{Reached, PegFound, from_start, on_straight, in_curve_lem, next_distance, on_last, beyond}
 
 -- The pegs that a line has: on the straight of a distance, or on a curve's arc or one of its spirals, no farther than these can be long.

@@ -16,7 +16,7 @@ use Rattle.stationing.specs.Stations.{straight_at}
 use Rattle.stationing.specs.LineElements.{Element, straight_element, spiral_in_element, arc_element, spiral_out_element, elements_from, elements_of, total, line_length, Placed, placed_from, placed_elements}
 use Rattle.orders.proofs.Unused.{same_straight, same_checks, same_elements}
 use Rattle.pegs.specs.Pegs.{along_line, holds, last_straight, holding, element_under, sided, curve_offsets, offsets_on, PegValues, peg_on, peg_by, station_check, peg_checks, peg_reply}
-use Rattle.pegs.proofs.Sides.{size_negative}
+use Rattle.numbers.proofs.Signs.{size_negative}
 
 -- Offsets without the side, and a peg with such.
 abbrev without_side : Offsets → Offsets

@@ -1,9 +1,9 @@
 -- Document 02, N1: "the element under a station". Stations, lengths and offsets are in µm; lengths along the line are counted from its start.
-use Rattle.std.specs.Prelude.{Bool, true, false, cond, ◌&&◌, List, [], ◌∷◌, ℕ, ◌-◌, ℤ, pos, nat_abs, neg_ℤ, ◌-ℤ◌}
+use Rattle.std.specs.Prelude.{Bool, true, false, cond, ◌&&◌, List, [], ◌∷◌, ℕ, ◌-◌, ℤ, pos, nat_abs, neg_ℤ, ◌-ℤ◌, Result}
 use Rattle.std.specs.Int.Signed.{le_z, lt_z}
-use Rattle.refusals.specs.Table.{number_of, place_of}
+use Rattle.refusals.specs.declared.Refusal.{Refusal}
 use Rattle.refusals.specs.Order.{Checks, check, ◌⨾◌}
-use Rattle.refusals.specs.Replying.{Reply, answered, declined, reply}
+use Rattle.refusals.specs.Replying.{Reply, reply_by, reply}
 use Rattle.line.specs.declared.Curve.{Curve}
 use Rattle.line.specs.declared.Line.{Line}
 use Rattle.line.specs.Checks.{curve_at}
@@ -13,8 +13,6 @@ use Rattle.stationing.specs.declared.ElementKind.TheVariants.{Straight, SpiralIn
 use Rattle.stationing.specs.Answer.{alignment_checks}
 use Rattle.stationing.specs.LineElements.{straight_element, line_length, Placed, finish, placed_elements, start_station}
 use Rattle.pegs.specs.declared.Peg.{Peg}
-use Rattle.pegs.specs.declared.PegAnswer.{PegAnswer}
-use Rattle.pegs.specs.declared.PegAnswer.TheVariants.{Found, Refused}
 
 -- The length from the line's start to a station.
 unfoldable pub along_line : Line → ℕ → ℤ
@@ -99,14 +97,14 @@ station_check line along = check (le_z (pos 0) along && le_z along (line_length 
 unfoldable pub peg_checks : Line → ℕ → Checks
 peg_checks line station = alignment_checks line ⨾ station_check line (along_line line station)
 
--- What each case of the call's answer says.
+-- Those of an answer's peg.
 abbrev pub values_of : Peg → PegValues
 values_of p =
     record { kind = p.kind; number = p.number; length = pos p.length; offsets = record { x = pos p.x; y = p.y } }
 
-abbrev pub peg_reply_of : PegAnswer → Reply PegValues
-peg_reply_of (Found p) = answered (values_of p)
-peg_reply_of (Refused r) = declined (number_of r) (place_of r)
+-- What each case of the call's answer says.
+abbrev pub peg_reply_of : Result Peg Refusal → Reply PegValues
+peg_reply_of r = reply_by values_of r
 
 -- What the call answers.
 unfoldable pub peg_reply : Line → ℕ → Reply PegValues

@@ -4,7 +4,6 @@
 mod stored;
 mod walk;
 
-use refusals::Refusal;
 use stationing::ElementKind;
 pub use stored::peg_numbers;
 pub use walk::peg_at;
@@ -22,11 +21,4 @@ pub struct Peg {
     pub x: u64,
     // On a spiral square to that tangent, to the right, so below zero on a left curve; elsewhere 0.
     pub y: i64,
-}
-
-// What the call for a station answers.
-#[derive(Clone, Copy)]
-pub enum PegAnswer {
-    Found(Peg),
-    Refused(Refusal),
 }

@@ -1,15 +1,13 @@
 -- Document 02, N9: "the totals of straights, spirals and arcs, in µm, and their sum", over the list of a line's elements that N1 searches.
-use Rattle.std.specs.Prelude.{Bool, true, false, cond, List, [], ◌∷◌, ℤ, pos, ◌+ℤ◌}
-use Rattle.refusals.specs.Table.{number_of, place_of}
-use Rattle.refusals.specs.Replying.{Reply, answered, declined, reply}
+use Rattle.std.specs.Prelude.{Bool, true, false, cond, List, [], ◌∷◌, ℤ, pos, ◌+ℤ◌, Result}
+use Rattle.refusals.specs.declared.Refusal.{Refusal}
+use Rattle.refusals.specs.Replying.{Reply, reply_by, reply}
 use Rattle.line.specs.declared.Line.{Line}
 use Rattle.stationing.specs.declared.ElementKind.{ElementKind}
 use Rattle.stationing.specs.declared.ElementKind.TheVariants.{Straight, SpiralIn, Arc, SpiralOut}
 use Rattle.stationing.specs.LineElements.{Element, elements_of, total}
 use Rattle.stationing.specs.Answer.{alignment_checks}
 use Rattle.totals.specs.declared.Totals.{Totals}
-use Rattle.totals.specs.declared.TotalsAnswer.{TotalsAnswer}
-use Rattle.totals.specs.declared.TotalsAnswer.TheVariants.{Found, Refused}
 
 -- "straights, spirals and arcs": which elements are which; a spiral is one in or one out
 abbrev pub is_straight : ElementKind → Bool
@@ -60,14 +58,14 @@ totals_by line = totals_of (elements_of line)
 
 -- ---- the call
 
--- What each case of the call's answer says.
+-- Those of an answer's totals.
 abbrev pub values_of : Totals → TotalValues
 values_of t =
     record { straights = pos t.straights; spirals = pos t.spirals; arcs = pos t.arcs; sum = pos t.sum }
 
-abbrev pub totals_reply_of : TotalsAnswer → Reply TotalValues
-totals_reply_of (Found t) = answered (values_of t)
-totals_reply_of (Refused r) = declined (number_of r) (place_of r)
+-- What each case of the call's answer says.
+abbrev pub totals_reply_of : Result Totals Refusal → Reply TotalValues
+totals_reply_of r = reply_by values_of r
 
 -- What the call answers: "refusals 3 to 15 as the calculator's"
 unfoldable pub totals_reply : Line → Reply TotalValues

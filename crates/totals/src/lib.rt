@@ -2,15 +2,11 @@
 #![tactic(auto)]
 
 ghost use Rattle.std.specs.Prelude.{◌≡◌};
-ghost use Rattle.refusals.specs.Outcomes.{passed};
-ghost use Rattle.refusals.specs.Order.{outcome};
-ghost use Rattle.stationing.specs.Answer.{alignment_checks};
-ghost use Rattle.calculator.specs.Lengths.{lengths_of, lengths_by};
 ghost use Rattle.totals.specs.Totals.{values_of, totals_by, totals_reply_of, totals_reply};
 
-use calculator::{LineLengths, line_lengths};
+use calculator::MeasuredLine;
 use line::Line;
-use refusals::{Refusal, Verdict};
+use refusals::Refusal;
 
 // What the elements of a line add up to, by kind and all together, in µm.
 #[derive(Clone, Copy)]
@@ -24,32 +20,21 @@ pub struct Totals {
     pub sum: u64,
 }
 
-// What the call for a line's totals answers.
-#[derive(Clone, Copy)]
-pub enum TotalsAnswer {
-    Found(Totals),
-    Refused(Refusal),
-}
-
-// The totals of a line whose lengths are known: curve by curve with the straight before it, then the last straight.
-fn add_up(line: Line, lengths: LineLengths) -> Totals
-    requires line_value { outcome (alignment_checks line) ≡ passed }
-    requires lengths_value { lengths_of lengths ≡ lengths_by line }
-    ensures { values_of result ≡ totals_by line }
+// The totals of a line, curve by curve with the straight before it, then the last straight.
+#[tactic(auto, using(stationing::proofs::Accepted::few))]
+fn add_up(measured: &MeasuredLine) -> Totals
+    ensures { values_of result ≡ totals_by measured.now.line }
 {
-    let n = line.count;
-    let mut straights: u64 = 0;
-    let mut spirals: u64 = 0;
-    let mut arcs: u64 = 0;
-    let mut i = 0;
-    while i < n {
-        let spiral = line.curves[i].spiral;
-        straights += lengths.straights[i];
-        spirals += 2000 * (spiral as u64);
-        arcs += lengths.arcs[i];
-        i += 1;
+    let n = measured.line.count;
+    let mut straights = 0;
+    let mut spirals = 0;
+    let mut arcs = 0;
+    for i in 0..n {
+        straights += measured.lengths.straights[i];
+        spirals += 2000 * u64::from(measured.line.curves[i].spiral);
+        arcs += measured.lengths.arcs[i];
     }
-    straights += lengths.straights[n];
+    straights += measured.lengths.straights[n];
     Totals {
         straights,
         spirals,
@@ -61,13 +46,10 @@ fn add_up(line: Line, lengths: LineLengths) -> Totals
 // The totals of a line's straights, spirals and arcs by document 01's working rule, and their sum, which is the end of the line less its
 // start, all in µm (document 02, N9). Or the first refusal: the calculator's 3 to 15 in its order. Any line is taken; unused entries and the
 // sides of the curves change nothing.
-pub fn line_totals(line: Line) -> TotalsAnswer
+#[tactic(auto, unfolding(crate::specs::Totals::totals_reply, refusals::specs::Replying::reply))]
+pub fn line_totals(line: Line) -> Result<Totals, Refusal>
     ensures answer { totals_reply_of result ≡ totals_reply line }
 {
-    let lengths = line_lengths(line);
-    let verdict = lengths.verdict;
-    match verdict {
-        Verdict::Refused(refusal) => TotalsAnswer::Refused(refusal),
-        Verdict::Pass => TotalsAnswer::Found(add_up(line, lengths)),
-    }
+    let measured = MeasuredLine::new(line)?;
+    Ok(add_up(&measured))
 }

@@ -1,100 +1,98 @@
--- `add_up`: the loop keeps what each total lacks, which is what the elements from distance i on add to it. Assumes nothing.
-use mathlib.Core.Path.{◌≡◌}
+-- `add_up`: each turn adds what a straight and the curve behind it add to the totals, so none is above the whole. Assumes nothing.
+use mathlib.Core.Path.{◌≡◌, sym, subst}
+use Prim.Native.Nat.{ℕ, ◌+◌, ◌*◌, ◌≤◌}
 use native.Mathlib.Omega.{arith}
-use lib.IntN.{◌+ℤ◌}
-use borrow.Author.Rules.{rules}
+use lib.IntN.{pos, ◌+ℤ◌}
+use lib.ListN.{get_or}
 use Rattle.numbers.proofs.Ranges.{at_most}
-use Rattle.stationing.proofs.Accepted.{accepted, few}
-use Rattle.calculator.proofs.LengthsKnown.{known_straight, known_arc}
-use Rattle.totals.specs.Totals.{is_straight, is_spiral, is_arc, totals_of, totals_by}
-use Rattle.totals.proofs.AddingUp.{none_yet, straight_added, spirals_added, arc_added, straights_whole, spirals_whole, arcs_whole}
+use Rattle.stationing.specs.LineElements.{elements_of}
+use Rattle.calculator.proofs.LengthsKnown.{ranges, known_straight, known_arc}
+use Rattle.totals.specs.Totals.{is_straight, is_spiral, is_arc, total_of, totals_of, totals_by}
+use Rattle.totals.proofs.AddingUp.{UpTo, none_yet, straight_added, spirals_added, arc_added, straights_whole, spirals_whole, arcs_whole}
 use Rattle.totals.proofs.InRange.{total_between, so_far_most}
 use Rattle.totals.proofs.add_up.Goals as goal
+use Rattle.totals.proofs.add_up.Goals.{In-loop-i, After-from, After-loop-i}
 
 pub loop-i-init : goal.loop-i-init
-loop-i-init c =
-    (search rules, few _ c.requires.line_value, none_yet _ is_straight, none_yet _ is_spiral, none_yet _ is_arc)
+loop-i-init c = record { straights = none_yet _ is_straight; spirals = none_yet _ is_spiral; arcs = none_yet _ is_arc }
+
+-- ---- a turn
+
+straight_next : (c : In-loop-i) → UpTo is_straight c.args.measured.now.line (c.loop-i.i + 1) (c.loop-i.straights + get_or c.args.measured.now.lengths.straights c.loop-i.i 0)
+straight_next c =
+    let m = c.args.measured.now in
+    straight_added m.line c.loop-i-test.true (known_straight m c.loop-i.i (omega arith)) c.loop-i.invariant.straights
+
+spirals_next : (c : After-from) → UpTo is_spiral c.args.measured.now.line (c.loop-i.i + 1) (c.loop-i.spirals + 2000 * c.from.result)
+spirals_next c =
+    let line = c.args.measured.now.line in
+    subst (λ (L : ℕ). UpTo is_spiral line (c.loop-i.i + 1) (c.loop-i.spirals + 2000 * L)) (sym c.from.ensures) (spirals_added line c.loop-i-test.true c.loop-i.invariant.spirals)
+
+arc_next : (c : In-loop-i) → UpTo is_arc c.args.measured.now.line (c.loop-i.i + 1) (c.loop-i.arcs + get_or c.args.measured.now.lengths.arcs c.loop-i.i 0)
+arc_next c =
+    let m = c.args.measured.now in
+    arc_added m.line c.loop-i-test.true (known_arc m c.loop-i.i c.loop-i-test.true) c.loop-i.invariant.arcs
 
 pub overflow_add-straights : goal.overflow_add-straights
 overflow_add-straights c =
-    let loop = c.loop-i in
-    let here = c.loop-i-test.true in
-    let line = c.args.line in
-    let ok = accepted line c.requires.line_value in
-    let straight = known_straight line c.args.lengths loop.invariant.1 c.requires.lengths_value loop.i (omega (arith, here)) in
-    omega (arith, so_far_most line ok is_straight (omega (arith, here)) (straight_added line here straight loop.invariant.2))
-
-pub overflow_mul-spirals : goal.overflow_mul-spirals
-overflow_mul-spirals c =
-    let curve = (accepted _ c.requires.line_value).in_range.curve c.loop-i.i c.loop-i-test.true in
-    omega (arith, curve.L-most)
+    let m = c.args.measured.now in
+    omega (arith, so_far_most m.line (ranges m) is_straight (omega arith) (straight_next (goal.at.overflow_add-straights c).In-loop-i))
 
 pub overflow_add-spirals : goal.overflow_add-spirals
 overflow_add-spirals c =
-    let loop = c.loop-i in
-    let here = c.loop-i-test.true in
-    let line = c.args.line in
-    omega (arith, so_far_most line (accepted line c.requires.line_value) is_spiral (omega (arith, here)) (spirals_added line here loop.invariant.3))
+    let m = c.args.measured.now in
+    omega (arith, so_far_most m.line (ranges m) is_spiral (omega arith) (spirals_next (goal.at.overflow_add-spirals c).After-from))
 
 pub overflow_add-arcs : goal.overflow_add-arcs
 overflow_add-arcs c =
-    let loop = c.loop-i in
-    let here = c.loop-i-test.true in
-    let line = c.args.line in
-    let arc = known_arc line c.args.lengths loop.invariant.1 c.requires.lengths_value loop.i here in
-    omega (arith, so_far_most line (accepted line c.requires.line_value) is_arc (omega (arith, here)) (arc_added line here arc loop.invariant.4))
+    let m = c.args.measured.now in
+    omega (arith, so_far_most m.line (ranges m) is_arc (omega arith) (arc_next (goal.at.overflow_add-arcs c).In-loop-i))
 
 pub loop-i-preserved : goal.loop-i-preserved
 loop-i-preserved c =
-    let loop = c.loop-i in
-    let here = c.loop-i-test.true in
-    let line = c.args.line in
-    let straight = known_straight line c.args.lengths loop.invariant.1 c.requires.lengths_value loop.i (omega (arith, here)) in
-    let arc = known_arc line c.args.lengths loop.invariant.1 c.requires.lengths_value loop.i here in (
-      search rules,
-      loop.invariant.1,
-      straight_added line here straight loop.invariant.2,
-      spirals_added line here loop.invariant.3,
-      arc_added line here arc loop.invariant.4,
-    )
+    record {
+      straights = straight_next (goal.at.loop-i-preserved c).In-loop-i;
+      spirals = spirals_next (goal.at.loop-i-preserved c).After-from;
+      arcs = arc_next (goal.at.loop-i-preserved c).In-loop-i;
+    }
+
+-- ---- behind the last curve
+
+straights_all : (c : After-loop-i) → pos (c.loop-i.straights + get_or c.args.measured.now.lengths.straights c.args.measured.now.line.count 0) ≡ total_of is_straight (elements_of c.args.measured.now.line)
+straights_all c =
+    let m = c.args.measured.now in
+    straights_whole m.line (omega arith) (known_straight m m.line.count (omega arith)) c.loop-i.invariant.straights
+
+straights_most : (c : After-loop-i) → c.loop-i.straights + get_or c.args.measured.now.lengths.straights c.args.measured.now.line.count 0 ≤ 2034206432640
+straights_most c =
+    let m = c.args.measured.now in
+    at_most (straights_all c) (total_between m.line (ranges m) is_straight)
 
 pub overflow_add-straights-2 : goal.overflow_add-straights-2
-overflow_add-straights-2 c =
-    let loop = c.loop-i in
-    let line = c.args.line in
-    let ok = accepted line c.requires.line_value in
-    let all : loop.i ≡ line.count = omega arith in
-    let last = known_straight line c.args.lengths loop.invariant.1 c.requires.lengths_value line.count (omega arith) in
-    omega (arith, at_most (straights_whole line all last loop.invariant.2) (total_between line ok is_straight))
+overflow_add-straights-2 c = omega (arith, straights_most (goal.at.overflow_add-straights-2 c).After-loop-i)
 
 pub overflow_add-result : goal.overflow_add-result
 overflow_add-result c =
-    let loop = c.loop-i in
-    let line = c.args.line in
-    let ok = accepted line c.requires.line_value in
-    let all : loop.i ≡ line.count = omega arith in
-    let last = known_straight line c.args.lengths loop.invariant.1 c.requires.lengths_value line.count (omega arith) in
-    let straights = at_most (straights_whole line all last loop.invariant.2) (total_between line ok is_straight) in
-    omega (arith, straights, so_far_most line ok is_spiral loop.invariant.0 loop.invariant.3)
+    let m = c.args.measured.now in
+    omega (arith, straights_most (goal.at.overflow_add-result c).After-loop-i, so_far_most m.line (ranges m) is_spiral (omega arith) c.loop-i.invariant.spirals)
 
 pub overflow_add-result-2 : goal.overflow_add-result-2
 overflow_add-result-2 c =
-    let loop = c.loop-i in
-    let line = c.args.line in
-    let ok = accepted line c.requires.line_value in
-    let all : loop.i ≡ line.count = omega arith in
-    let last = known_straight line c.args.lengths loop.invariant.1 c.requires.lengths_value line.count (omega arith) in
-    let straights = at_most (straights_whole line all last loop.invariant.2) (total_between line ok is_straight) in
-    omega (arith, straights, so_far_most line ok is_spiral loop.invariant.0 loop.invariant.3, so_far_most line ok is_arc loop.invariant.0 loop.invariant.4)
+    let m = c.args.measured.now in
+    let ok = ranges m in
+    omega (
+      arith,
+      straights_most (goal.at.overflow_add-result-2 c).After-loop-i,
+      so_far_most m.line ok is_spiral (omega arith) c.loop-i.invariant.spirals,
+      so_far_most m.line ok is_arc (omega arith) c.loop-i.invariant.arcs,
+    )
 
 pub returns : goal.returns
 unfolding totals_of totals_by
 returns c =
-    let loop = c.loop-i in
-    let line = c.args.line in
-    let all : loop.i ≡ line.count = omega arith in
-    let last = known_straight line c.args.lengths loop.invariant.1 c.requires.lengths_value line.count (omega arith) in
-    let straights = straights_whole line all last loop.invariant.2 in
-    let spirals = spirals_whole line all loop.invariant.3 in
-    let arcs = arcs_whole line all loop.invariant.4 in
+    let line = c.args.measured.now.line in
+    let all : c.loop-i.i ≡ line.count = omega arith in
+    let straights = straights_all (goal.at.returns c).After-loop-i in
+    let spirals = spirals_whole line all c.loop-i.invariant.spirals in
+    let arcs = arcs_whole line all c.loop-i.invariant.arcs in
     λ j. record { straights = straights j; spirals = spirals j; arcs = arcs j; sum = straights j +ℤ spirals j +ℤ arcs j }

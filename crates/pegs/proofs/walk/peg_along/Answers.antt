@@ -1,96 +1,82 @@
--- `peg_along`: the loop keeps that the element is among those from distance i on, which begin where the rest does. Assumes nothing.
-use mathlib.Core.Path.{◌≡◌, ◌∙◌, ap, subst, transport}
-use Prim.Native.Nat.{ℕ, suc, ◌+◌, ◌-◌, ◌<◌}
-use Rattle.refusals.specs.Replying.{answered}
+-- `peg_along`: the element under the length is that of this turn, or among those behind it. Assumes nothing.
+use mathlib.Core.Path.{◌≡◌, sym, ◌∙◌, ap, subst, transport}
+use Prim.Native.Nat.{ℕ, suc, ◌+◌, ◌-◌, ◌*◌}
 use native.Mathlib.Omega.{arith}
-use borrow.Author.Rules.{rules}
-use Rattle.numbers.proofs.Ranges.{at_most}
-use Rattle.stationing.proofs.Accepted.{accepted, few}
-use Rattle.calculator.proofs.LengthsKnown.{known_straight, known_arc}
+use lib.ListN.{get_or}
+use Rattle.refusals.specs.Replying.{answered}
+use Rattle.calculator.proofs.LengthsKnown.{ranges, known_straight, known_arc, arc_most}
 use Rattle.pegs.proofs.Walking.{Reached, from_start, at_straight, at_curve, at_next, at_last, at_beyond}
 use Rattle.pegs.proofs.walk.peg_along.Goals as goal
+use Rattle.pegs.proofs.walk.peg_along.Goals.{After-from, After-loop-i}
 
 pub loop-i-init : goal.loop-i-init
 loop-i-init c =
-    let line = c.args.line in
+    let line = c.args.measured.now.line in
     let along = c.args.along in
     let none : 0 ≡ along - along = omega arith in
     let all : line.count ≡ line.count - 0 = omega arith in
-    (search rules, few line c.requires.line_value, search rules, subst (λ (k : ℕ). Reached line along 0 k (along - along)) all (subst (Reached line along 0 line.count) none (from_start line (accepted line c.requires.line_value) along)))
+    (omega arith, transport (λ j. Reached line along 0 (all j) (none j)) (from_start line (ranges c.args.measured.now) along))
 
 pub returns-then-rest-straight : goal.returns-then-rest-straight
 returns-then-rest-straight c =
+    let m = c.args.measured.now in
     let loop = c.loop-i in
-    let line = c.args.line in
-    let straight = known_straight line c.args.lengths (few line c.requires.line_value) c.requires.lengths_value loop.i loop.invariant.0 in
-    ap answered c.plain_peg-peg.ensures
-    ∙ at_straight line (accepted line c.requires.line_value) c.args.along loop.rest loop.invariant.2 loop.i _ straight _ loop.invariant.3 c.if-rest-straight.true
+    ap answered c.plain_peg.ensures
+    ∙ at_straight m.line (ranges m) c.args.along loop.rest loop.invariant.0 loop.i _ (known_straight m loop.i (omega arith)) _ loop.invariant.1 c.if-rest-straight.true
+
+pub overflow_mul-whole : goal.overflow_mul-whole
+overflow_mul-whole c = omega (arith, ((ranges c.args.measured.now).in_range.curve c.loop-i.i c.loop-i-test.true).L-most)
 
 pub overflow_add-whole : goal.overflow_add-whole
 overflow_add-whole c =
-    let loop = c.loop-i in
-    let line = c.args.line in
-    let ok = accepted line c.requires.line_value in
-    let here : loop.i < line.count = omega arith in
-    let arc = known_arc line c.args.lengths (few line c.requires.line_value) c.requires.lengths_value loop.i here in
-    omega (arith, at_most arc (ok.arc loop.i here), (ok.in_range.curve loop.i here).L-most)
+    let m = c.args.measured.now in
+    omega (arith, arc_most m c.loop-i.i c.loop-i-test.true, ((ranges m).in_range.curve c.loop-i.i c.loop-i-test.true).L-most)
 
-pub peg_in_curve-requires : goal.peg_in_curve-requires
-peg_in_curve-requires c =
-    let loop = c.loop-i in
-    let line = c.args.line in
-    let ok = accepted line c.requires.line_value in
-    let here : loop.i < line.count = omega arith in
-    let arc = known_arc line c.args.lengths (few line c.requires.line_value) c.requires.lengths_value loop.i here in
-    record {
-      curve_in_range = (ok.in_range.curve loop.i here, at_most arc (ok.arc loop.i here));
-      inside_bound = c.if-inside-whole.true;
-    }
+pub peg_in_curve-requires-clause-curve_in_range : goal.peg_in_curve-requires-clause-curve_in_range
+peg_in_curve-requires-clause-curve_in_range c =
+    let m = c.args.measured.now in
+    ((ranges m).in_range.curve c.loop-i.i c.loop-i-test.true, arc_most m c.loop-i.i c.loop-i-test.true)
+
+-- The curve of this turn is among the elements that are left.
+here : (c : After-from) → Reached c.args.measured.now.line c.args.along c.loop-i.i (suc (c.args.measured.now.line.count - (c.loop-i.i + 1))) (c.args.along - c.loop-i.rest)
+here c =
+    let more : c.args.measured.now.line.count - c.loop-i.i ≡ suc (c.args.measured.now.line.count - (c.loop-i.i + 1)) = omega arith in
+    subst (λ (k : ℕ). Reached c.args.measured.now.line c.args.along c.loop-i.i k (c.args.along - c.loop-i.rest)) more c.loop-i.invariant.1
 
 pub returns-then-inside-whole : goal.returns-then-inside-whole
 returns-then-inside-whole c =
-    let loop = c.loop-i in
-    let line = c.args.line in
-    let here : loop.i < line.count = omega arith in
-    let straight = known_straight line c.args.lengths (few line c.requires.line_value) c.requires.lengths_value loop.i loop.invariant.0 in
-    let arc = known_arc line c.args.lengths (few line c.requires.line_value) c.requires.lengths_value loop.i here in
-    let more : line.count - loop.i ≡ suc (line.count - (loop.i + 1)) = omega arith in
-    let reached = subst (λ (k : ℕ). Reached line c.args.along loop.i k (c.args.along - loop.rest)) more loop.invariant.3 in
+    let m = c.args.measured.now in
+    let i = c.loop-i.i in
+    let left = here (goal.at.returns-then-inside-whole c).After-from in
     c.peg_in_curve.ensures
-    ∙ at_curve line (accepted line c.requires.line_value) c.args.along loop.rest loop.invariant.2 loop.i _ straight _ _ arc reached (omega arith) c.if-inside-whole.true
+    ∙ at_curve m.line (ranges m) c.args.along c.loop-i.rest c.loop-i.invariant.0 i _ (known_straight m i (omega arith)) _ _ (known_arc m i c.loop-i-test.true) left (omega arith) (omega (arith, c.from.ensures))
 
 pub loop-i-preserved : goal.loop-i-preserved
 loop-i-preserved c =
-    let loop = c.loop-i in
-    let line = c.args.line in
-    let here : loop.i < line.count = omega arith in
-    let straight = known_straight line c.args.lengths (few line c.requires.line_value) c.requires.lengths_value loop.i loop.invariant.0 in
-    let arc = known_arc line c.args.lengths (few line c.requires.line_value) c.requires.lengths_value loop.i here in
-    let more : line.count - loop.i ≡ suc (line.count - (loop.i + 1)) = omega arith in
-    let reached = subst (λ (k : ℕ). Reached line c.args.along loop.i k (c.args.along - loop.rest)) more loop.invariant.3 in (
-      search rules,
-      loop.invariant.1,
-      omega arith,
-      at_next line (accepted line c.requires.line_value) c.args.along loop.rest loop.invariant.2 loop.i _ straight _ _ arc reached (omega arith) c.if-inside-whole.false,
-    )
+    let m = c.args.measured.now in
+    let i = c.loop-i.i in
+    let along = c.args.along in
+    let rest = c.loop-i.rest in
+    let left = here (goal.at.loop-i-preserved c).After-from in
+    let next = at_next m.line (ranges m) along rest c.loop-i.invariant.0 i _ (known_straight m i (omega arith)) _ _ (known_arc m i c.loop-i-test.true) left (omega arith) (omega (arith, c.from.ensures)) in
+    (omega arith, subst (λ (L : ℕ). Reached m.line along (i + 1) (m.line.count - (i + 1)) (along - (rest - get_or m.lengths.straights i 0 - (2000 * L + get_or m.lengths.arcs i 0)))) (sym c.from.ensures) next)
 
-pub returns-then-lengths-n : goal.returns-then-lengths-n
-returns-then-lengths-n c =
-    let loop = c.loop-i in
-    let line = c.args.line in
-    let straight = known_straight line c.args.lengths (few line c.requires.line_value) c.requires.lengths_value line.count (omega arith) in
-    let all : loop.i ≡ line.count = omega arith in
-    let none : line.count - loop.i ≡ 0 = omega arith in
-    let reached : Reached line c.args.along line.count 0 (c.args.along - loop.rest) = transport (λ j. Reached line c.args.along (all j) (none j) (c.args.along - loop.rest)) loop.invariant.3 in
-    at_beyond line (accepted line c.requires.line_value) c.args.along loop.rest loop.invariant.2 _ straight reached c.if-lengths-n.true
+-- The last straight alone is left.
+last : (c : After-loop-i) → Reached c.args.measured.now.line c.args.along c.args.measured.now.line.count 0 (c.args.along - c.loop-i.rest)
+last c =
+    let all : c.loop-i.i ≡ c.args.measured.now.line.count = omega arith in
+    let none : c.args.measured.now.line.count - c.loop-i.i ≡ 0 = omega arith in
+    transport (λ j. Reached c.args.measured.now.line c.args.along (all j) (none j) (c.args.along - c.loop-i.rest)) c.loop-i.invariant.1
+
+pub returns-then-measured-n : goal.returns-then-measured-n
+returns-then-measured-n c =
+    let m = c.args.measured.now in
+    let straight = known_straight m m.line.count (omega arith) in
+    at_beyond m.line (ranges m) c.args.along c.loop-i.rest c.loop-i.invariant.0 _ straight (last (goal.at.returns-then-measured-n c).After-loop-i) c.if-measured-n.true
 
 pub returns : goal.returns
 returns c =
-    let loop = c.loop-i in
-    let line = c.args.line in
-    let straight = known_straight line c.args.lengths (few line c.requires.line_value) c.requires.lengths_value line.count (omega arith) in
-    let all : loop.i ≡ line.count = omega arith in
-    let none : line.count - loop.i ≡ 0 = omega arith in
-    let reached : Reached line c.args.along line.count 0 (c.args.along - loop.rest) = transport (λ j. Reached line c.args.along (all j) (none j) (c.args.along - loop.rest)) loop.invariant.3 in
-    ap answered c.plain_peg-peg-2.ensures
-    ∙ at_last line (accepted line c.requires.line_value) c.args.along loop.rest loop.invariant.2 _ straight reached c.if-lengths-n.false
+    let m = c.args.measured.now in
+    let straight = known_straight m m.line.count (omega arith) in
+    ap answered c.plain_peg-2.ensures
+    ∙ at_last m.line (ranges m) c.args.along c.loop-i.rest c.loop-i.invariant.0 _ straight (last (goal.at.returns c).After-loop-i) c.if-measured-n.false

@@ -10,10 +10,9 @@ use Rattle.refusals.specs.Order.{unchecked}
 use Rattle.refusals.proofs.FillWays.{whole_fill}
 use Rattle.stationing.specs.Stations.{spiral_at, former_st, curve_stations, station_row}
 use Rattle.stationing.proofs.RowCount.{row_count}
-use Rattle.stationing.proofs.Accepted.{accepted, few}
 use Rattle.stationing.proofs.FormerST.{former_between}
 use Rattle.stationing.proofs.RowSteps.{numbers_to, next_st, curve_stored, end_stored}
-use Rattle.calculator.proofs.LengthsKnown.{known_straight, known_arc}
+use Rattle.calculator.proofs.LengthsKnown.{ranges, known_straight, straight_most, known_arc, arc_most}
 use Rattle.calculator.proofs.measured.MeasuredLine.store.Goals as goal
 
 pub loop-i-init : goal.loop-i-init
@@ -22,47 +21,42 @@ loop-i-init c = (ap (λ (start : ℕ). pos (1000 * start)) c.from-station.ensure
 
 pub store_curve-station-requires-clause-former_bound : goal.store_curve-station-requires-clause-former_bound
 store_curve-station-requires-clause-former_bound c =
+    let m = c.args.self.now in
     let i = c.loop-i.i in
     let here = c.loop-i-test.true in
-    let line = c.args.self.now.line in
-    let ok = accepted line c.args.self.now.checked in
-    let former = at_most c.loop-i.invariant.0 (former_between line ok i (omega arith)) in
-    let straight = known_straight line c.args.self.now.lengths ok.in_range.few c.args.self.now.known i (omega arith) in
-    let arc = known_arc line c.args.self.now.lengths ok.in_range.few c.args.self.now.known i here in
+    let ok = ranges m in
+    let former = at_most c.loop-i.invariant.0 (former_between m.line ok i (omega arith)) in
     let spiral = (ok.in_range.curve i here).L-most in
-    (omega (arith, former, ok.in_range.few), at_most straight (ok.straight i (omega arith)), omega (arith, spiral, c.from-spiral.ensures), at_most arc (ok.arc i here))
+    (omega (arith, former, ok.in_range.few), straight_most m i (omega arith), omega (arith, spiral, c.from-spiral.ensures), arc_most m i here)
 
 pub loop-i-preserved : goal.loop-i-preserved
 unfolding spiral_at
 loop-i-preserved c =
+    let m = c.args.self.now in
     let loop = c.loop-i in
     let stored = c.store_curve-station.ensures in
-    let line = c.args.self.now.line in
-    let few_curves = few line c.args.self.now.checked in
-    let straight = known_straight line c.args.self.now.lengths few_curves c.args.self.now.known loop.i (omega arith) in
+    let straight = known_straight m loop.i (omega arith) in
     let spiral = ap (λ (L : ℕ). pos (1000 * L)) c.from-spiral.ensures in
-    let arc = known_arc line c.args.self.now.lengths few_curves c.args.self.now.known loop.i c.loop-i-test.true in (
-      next_st line loop.i loop.invariant.0 straight spiral arc stored.value,
-      curve_stored line loop.i loop.invariant.0 straight spiral arc c.args.row.now loop.row _ (omega arith) loop.invariant.1 stored.row_after,
+    let arc = known_arc m loop.i c.loop-i-test.true in (
+      next_st m.line loop.i loop.invariant.0 straight spiral arc stored.value,
+      curve_stored m.line loop.i loop.invariant.0 straight spiral arc c.args.row.now loop.row _ (omega arith) loop.invariant.1 stored.row_after,
     )
 
 pub overflow_add-row : goal.overflow_add-row
 overflow_add-row c =
-    let loop = c.loop-i in
-    let line = c.args.self.now.line in
-    let ok = accepted line c.args.self.now.checked in
-    let former = at_most loop.invariant.0 (former_between line ok loop.i (omega arith)) in
-    let straight = at_most (known_straight line c.args.self.now.lengths ok.in_range.few c.args.self.now.known line.count (omega arith)) (ok.straight line.count (omega arith)) in
-    omega (arith, former, straight, ok.in_range.few)
+    let m = c.args.self.now in
+    let ok = ranges m in
+    let former = at_most c.loop-i.invariant.0 (former_between m.line ok c.loop-i.i (omega arith)) in
+    omega (arith, former, straight_most m m.line.count (omega arith), ok.in_range.few)
 
 pub returns : goal.returns
 returns c =
+    let m = c.args.self.now in
     let loop = c.loop-i in
-    let line = c.args.self.now.line in
+    let line = m.line in
     let lent = c.args.row.now in
     let all : loop.i ≡ line.count = omega arith in
-    let end = known_straight line c.args.self.now.lengths (few line c.args.self.now.checked) c.args.self.now.known line.count (omega arith) in
     let front = loop.invariant.1 ∙ ap (λ (i : ℕ). numbers_to line i ++ drop (4 * i) lent) all in
     let whole = whole_fill unchecked (station_row line) lent refl (row_count line) c.if-row-count.false
-    (end_stored line (loop.invariant.0 ∙ ap (former_st line) all) end lent loop.row c.if-row-count.false front) in
+    (end_stored line (loop.invariant.0 ∙ ap (former_st line) all) (known_straight m line.count (omega arith)) lent loop.row c.if-row-count.false front) in
     record { answer = whole.0; memory = whole.1 }
