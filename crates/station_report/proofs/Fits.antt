@@ -1,13 +1,16 @@
 -- No sheet's text is longer than 5,417 bytes, so that so many lent bytes are never refused. Assumes nothing.
-use mathlib.Core.Path.{◌≡◌, refl, ◌∙◌}
+use mathlib.Core.Path.{◌≡◌, refl, sym, ◌∙◌}
 use mathlib.Core.List.{List}
 use Prim.Native.Nat.{ℕ, ◌≤◌, ◌<◌}
 use native.Mathlib.Omega.{arith}
-use lib.ListN.{length}
+use lib.ListN.{length, replicate}
 use Rattle.refusals.specs.Outcomes.{Outcome, passed, refused}
-use Rattle.refusals.specs.Filling.{unfilled, fill}
-use Rattle.refusals.specs.Order.{Checks, unchecked, outcome}
+use Rattle.std.specs.Prelude.{Result, Ok, Err}
+use Rattle.std.specs.Result.{result_unwrap_or}
+use Rattle.refusals.specs.declared.Refusal.{Refusal}
+use Rattle.refusals.specs.Filling.{filled, unfilled, fill_reply_of, fill}
 use Rattle.refusals.proofs.Filled.{never}
+use Rattle.refusals.specs.Order.{Checks, unchecked, outcome}
 use Rattle.refusals.proofs.FillWays.{whole_fill}
 use Rattle.refusals.proofs.Numbers.{Refuses, refusal_numbers, wider}
 use Rattle.refusals.proofs.Joining.{passed_right}
@@ -23,7 +26,7 @@ use Rattle.orders.proofs.InOrder.{in_order}
 use Rattle.stationing.proofs.RowCount.{row_count}
 use Rattle.orders.proofs.Numbers.{alignment_numbers}
 use Rattle.report.proofs.Short.{list_short, refusal_short}
-use Rattle.station_report.specs.Report.{answer_text, sheet_checks, sheet_text}
+use Rattle.station_report.specs.Report.{answer_text, sheet_checks, sheet_text, whole_text}
 
 -- The text of an answer, where a refusal has few digits and a row that passes is one that was accepted.
 text_short : (line : Line) (checks : Checks) (o : Outcome) → Refuses 1 15 127 checks → outcome checks ≡ o → (o ≡ passed → outcome (alignment_checks line) ≡ passed)
@@ -62,3 +65,18 @@ pub never_refused : (sheet lent : List ℕ) {n p : ℕ} {A : Type 0} → (fill u
 never_refused sheet lent {n} {p} e h =
     let whole = whole_fill unchecked (sheet_text sheet) lent refl refl (omega (arith, fits sheet)) refl in
     never (length (sheet_text sheet)) n p (whole.0 ∙ e)
+
+-- So many zeros hold the whole text, whose length is answered.
+module _ (sheet : List ℕ) where
+  filled_whole : (filled (length (sheet_text sheet)) ≡ (fill unchecked (sheet_text sheet) (replicate 5417 0)).reply)
+      × (whole_text sheet ≡ (fill unchecked (sheet_text sheet) (replicate 5417 0)).buffer)
+  unfolding whole_text
+  filled_whole = whole_fill unchecked (sheet_text sheet) (replicate 5417 0) refl refl (fits sheet) refl
+
+  pub whole_length : (r : Result ℕ Refusal) → fill_reply_of r ≡ (fill unchecked (sheet_text sheet) (replicate 5417 0)).reply
+      → result_unwrap_or r 0 ≡ length (sheet_text sheet)
+  whole_length (Ok count) e = cc (filled_whole.0)
+  whole_length (Err r) e = never_refused sheet (replicate 5417 0) (sym e) (omega arith)
+
+  pub whole_buffer : (fill unchecked (sheet_text sheet) (replicate 5417 0)).buffer ≡ whole_text sheet
+  whole_buffer = sym filled_whole.1

@@ -1,29 +1,22 @@
--- `whole_report` meets its contract. Assumes nothing.
-use mathlib.Core.Path.{sym, ◌∙◌, ap, subst}
-use mathlib.Core.List.{List}
-use Prim.Native.Nat.{ℕ, ◌≤◌}
+-- `whole_report`: 5,417 bytes are never refused. Assumes nothing.
+use mathlib.Core.Path.{sym, ◌∙◌}
+use Prim.Native.Nat.{◌≤◌}
 use native.Mathlib.Omega.{arith}
 use lib.ListN.{length}
 use lib.Seq.{length-take-le}
-use Rattle.refusals.specs.Order.{unchecked}
-use Rattle.refusals.specs.Filling.{fill_reply_of}
-use Rattle.refusals.proofs.Filled.{found}
-use Rattle.station_report.specs.Report.{sheet_text, whole_text}
-use Rattle.station_report.proofs.Fits.{never_refused}
+use Rattle.station_report.proofs.Fits.{fits, whole_length, whole_buffer}
 use Rattle.station_report.proofs.whole_report.Goals as goal
 
--- 5,417 bytes are never refused.
-pub returns-in_default : goal.returns-in_default
-returns-in_default c = never_refused _ _ (sym c.report_sheet-answer.ensures.answer ∙ ap fill_reply_of c.in_default.is) (omega arith)
+pub invariant_of-result : goal.invariant_of-result
+invariant_of-result c =
+    let sheet = c.args.sheet.now in
+    let length_is = whole_length sheet c.report_sheet.result c.report_sheet.ensures.answer in
+    let within : c.unwrap_or-length.result ≤ length c.report_sheet.new.text = omega (arith, fits sheet) in
+    record { within = (within, sym (length-take-le _ _ within)) }
 
 pub returns : goal.returns
-unfolding whole_text
 returns c =
-    let called = c.report_sheet-answer in
-    let given = found unchecked (sheet_text _) _ (sym called.ensures.answer ∙ ap fill_reply_of c.in-Count.is) in
-    let room = subst (λ (t : List ℕ). c.in-Count.length ≤ length t) (sym called.ensures.memory) given.within in
-    record {
-      text = called.ensures.memory ∙ given.holds;
-      size = given.all;
-      within = (room, sym (length-take-le _ _ room));
+    let sheet = c.args.sheet.now in record {
+      text = c.report_sheet.ensures.memory ∙ whole_buffer sheet;
+      size = c.unwrap_or-length.ensures ∙ whole_length sheet c.report_sheet.result c.report_sheet.ensures.answer;
     }
