@@ -59,3 +59,6 @@ line_goes_on numbers i l c d h e p q =
 pub line_done : (numbers : List ℕ) (i : ℕ) → number_at numbers 0 ≡ i → line_to numbers i ≡ line_of numbers
 unfolding line_to line_of
 line_done numbers i e = rw (add-one i, e) refl
+
+-- What the proof of `line_of` cites.
+pub ruleset filling = (line_begun, line_goes_on, line_done)

@@ -7,8 +7,12 @@ use native.Mathlib.Numerals.{add-one}
 use native.Mathlib.Omega.{arith}
 use lib.ListN.{length, take, drop, length-append}
 use lib.Seq.{take_at, drop_at, drop-drop}
+use Rattle.refusals.specs.Outcomes.{refused}
+use Rattle.refusals.specs.Order.{outcome}
+use Rattle.refusals.specs.Filling.{unfilled, fill}
+use Rattle.refusals.proofs.FillWays.{refused_fill, small_fill, whole_fill}
 use Rattle.line.specs.declared.Line.{Line}
-use Rattle.line_numbers.specs.Numbers.{number_count, entry_numbers, numbers_to, line_numbers}
+use Rattle.line_numbers.specs.Numbers.{number_count, entry_numbers, numbers_to, line_numbers, few_check}
 
 pub numbers_length : (line : Line) (i : ℕ) → length (numbers_to line i) ≡ number_count i
 unfolding numbers_to
@@ -32,3 +36,11 @@ entry_stored line i size lent now part five e q =
     let next : number_count (i + 1) ≡ k + size = omega arith in
     let rest : drop size (drop k now) ≡ drop (number_count (i + 1)) lent = ap (drop size) behind ∙ drop-drop size k lent ∙ ap (λ (n : ℕ). drop n lent) (sym next) in
     (λ j. front j ++ (q j ++ rest j)) ∙ sym (append_assoc (numbers_to line i) (entry_numbers line i) (drop (number_count (i + 1)) lent)) ∙ ap (λ (n : ℕ). numbers_to line n ++ drop (number_count (i + 1)) lent) (sym (add-one i))
+
+-- Refusal 3 leaves the numbers as they were.
+pub numbers_refused : (line : Line) (lent : List ℕ) {n p : ℕ} → refused n p ≡ outcome (few_check line)
+    → (unfilled n p ≡ (fill (few_check line) (line_numbers line) lent).reply) × (lent ≡ (fill (few_check line) (line_numbers line) lent).buffer)
+numbers_refused line lent e = refused_fill (few_check line) (line_numbers line) lent (sym e)
+
+-- What the proof of `write` cites.
+pub ruleset writing = (numbers_refused, small_fill, whole_fill, line_length_lem)

@@ -44,7 +44,7 @@ fn curve_of(numbers: &[u32], entry: usize) -> Curve
 }
 
 // The line of numbers that are those of at most 64 curves, its unused entries zero.
-#[tactic(auto, using(crate::proofs::Filling::line_begun, crate::proofs::Filling::line_goes_on, crate::proofs::Filling::line_done))]
+#[tactic(auto, using(crate::proofs::Filling::filling))]
 fn line_of(numbers: &[u32]) -> Line
     requires few { number_at numbers.now 0 ≤ 64 }
     requires all { length numbers.now ≡ number_count (number_at numbers.now 0) }

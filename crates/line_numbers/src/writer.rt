@@ -34,7 +34,7 @@ fn store_line(line: &Line, numbers: &mut [u32])
 
 // The numbers of a line at the front of `numbers`. Answers how many there are, 5 + 5 × n, or refusal 3, over 64 curves, then 16; a refusal
 // leaves `numbers` as they were. Any line and any numbers are taken; entries from n on are not read.
-#[tactic(auto, using(refusals::proofs::FillWays::refused_fill, refusals::proofs::FillWays::small_fill, refusals::proofs::FillWays::whole_fill, crate::proofs::Storing::line_length_lem))]
+#[tactic(auto, using(crate::proofs::Storing::writing))]
 pub fn write(line: Line, numbers: &mut [u32]) -> Result<usize, Refusal>
     ensures answer { fill_reply_of result ≡ (fill (few_check line) (line_numbers line) numbers.old).reply }
     ensures memory { numbers.new ≡ (fill (few_check line) (line_numbers line) numbers.old).buffer }
