@@ -3,7 +3,8 @@ use mathlib.Core.Path.{◌≡◌, refl, sym, subst}
 use mathlib.Core.List.{List}
 use Prim.Native.Nat.{ℕ, ◌≤◌}
 use lib.Dec.{lit≤}
-use Rattle.refusals.specs.declared.FillAnswer.{FillAnswer}
+use Rattle.std.specs.Prelude.{Result}
+use Rattle.refusals.specs.declared.Refusal.{Refusal}
 use Rattle.refusals.specs.Filling.{fill_reply_of}
 use Rattle.line.specs.declared.Line.{Line}
 use Rattle.stationing.specs.Stations.{station_row}
@@ -33,7 +34,7 @@ pub accuracy : (line : Line) (row : List ℕ) → Accurate document_terms line (
 accuracy line row = accuracy_with document_terms (lit≤ tt) line row
 
 -- The same for a caller of `stations`, of the answer that he got and the row as he finds it: the premises are the two equations of the contract.
-pub call_accurate : (line : Line) (entry exit : List ℕ) (answer : FillAnswer)
+pub call_accurate : (line : Line) (entry exit : List ℕ) (answer : Result ℕ Refusal)
     → fill_reply_of answer ≡ (stations_in line entry).reply → exit ≡ (stations_in line entry).buffer
     → Accurate document_terms line (record { reply = fill_reply_of answer; buffer = exit })
 call_accurate line entry exit answer reply memory =
