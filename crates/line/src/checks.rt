@@ -38,7 +38,7 @@ pub fn check_head(
     ensures { outcome_of result ≡ outcome (head_checks greatest count speed crossfall start) }
 {
     must(count <= 64, Refusal::CurveCount)?;
-    check_speed(speed as u64)?;
+    check_speed(u64::from(speed))?;
     must((2..=12).contains(&crossfall), Refusal::Crossfall)?;
     check_start(greatest, start)
 }

@@ -36,10 +36,10 @@ fn head_bits(passed: &Passed) -> u64
 {
     let edition = passed.edition;
     let line = passed.line;
-    let n = join(edition.number as u64, COUNT, line.count as u64);
-    let v = join(n, SPEED, line.speed as u64);
-    let e = join(v, CROSSFALL, line.crossfall as u64);
-    join(e, edition.width, line.start as u64)
+    let n = join(u64::from(edition.number), COUNT, line.count as u64);
+    let v = join(n, SPEED, u64::from(line.speed));
+    let e = join(v, CROSSFALL, u64::from(line.crossfall));
+    join(e, edition.width, u64::from(line.start))
 }
 
 // A distance with side and deflection of the curve after it as one field.
@@ -48,8 +48,8 @@ fn turn_bits(distance: u32, curve: Curve) -> u64
     requires { Fit entry_widths (distance ∷ curve_values curve) }
     ensures { result ≡ packed 0 (take 3 entry_widths) (take 3 (distance ∷ curve_values curve)) }
 {
-    let side = join(distance as u64, SIDE, side_bit(curve.left) as u64);
-    join(side, DEFLECTION, curve.deflection as u64)
+    let side = join(u64::from(distance), SIDE, u64::from(side_bit(curve.left)));
+    join(side, DEFLECTION, u64::from(curve.deflection))
 }
 
 // The curve's radius and spiral as one field.
@@ -58,7 +58,7 @@ fn size_bits(curve: Curve) -> u64
     requires { Fit curve_widths (curve_values curve) }
     ensures { result ≡ packed 0 (drop 2 curve_widths) (drop 2 (curve_values curve)) }
 {
-    join(curve.radius as u64, SPIRAL, curve.spiral as u64)
+    join(u64::from(curve.radius), SPIRAL, u64::from(curve.spiral))
 }
 
 // The last distance, behind head and entries, with the zero bits that fill the last byte.
@@ -71,7 +71,7 @@ fn put_end(passed: &Passed, bytes: &mut [u8], pen: Pen)
 {
     let n = passed.line.count;
     let fill = 8 * byte_count(passed.edition, n) - bit_count(passed.edition, n);
-    let end = join(passed.line.distances[n] as u64, fill, 0);
+    let end = join(u64::from(passed.line.distances[n]), fill, 0);
     let last = put(bytes, pen, DISTANCE + fill, end);
     store_rest(bytes, last);
 }

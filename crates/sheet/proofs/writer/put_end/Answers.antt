@@ -18,7 +18,7 @@ pub put-last-requires : goal.put-last-requires
 put-last-requires g c =
     let passed = c.args.passed.now in
     let width = fill_told g.told passed.edition passed.line.now c.requires.0 c.byte_count.ensures c.bit_count.ensures in
-    let bits = c.join-end.ensures.whole (omega arith) (omega (arith, width)) in
+    let bits = rw c.from.ensures at (c.join-end.ensures.whole (omega arith) (omega (arith, width))) in
     (c.requires.1.0, end_next g.told passed.edition passed.line.now c.requires.0 passed.is_handled passed.in_range c.args.pen c.requires.1.1 width bits)
 
 pub returns : goal.returns
