@@ -3,20 +3,22 @@ use mathlib.Core.Path.{◌≡◌, sym, ◌∙◌, ap}
 use mathlib.Core.List.{List, ◌++◌}
 use Prim.Native.Nat.{ℕ, ◌≤◌}
 use lib.ListN.{length, take, drop}
-use Rattle.refusals.specs.declared.FillAnswer.{FillAnswer}
+use Rattle.std.specs.Prelude.{Result, Ok, IfOk}
+use Rattle.refusals.specs.declared.Refusal.{Refusal}
 use Rattle.refusals.specs.Outcomes.{passed, outcome_of}
 use Rattle.refusals.specs.Order.{outcome}
 use Rattle.refusals.specs.Filling.{filled, fill_reply_of}
 use Rattle.refusals.proofs.FillWays.{known_fill}
 use Rattle.packed_sheet.specs.Reading.{read_checks, read_line, read_edition}
-use Rattle.sheet.specs.declared.reader.ReadAnswer.{ReadAnswer}
+use Rattle.round_trips.proofs.Calls.{read_answer}
+use Rattle.sheet.specs.declared.reader.SheetLine.{SheetLine}
 use Rattle.conversion.specs.Conversion.{convert_checks, converted, conversion}
 use Rattle.conversion.proofs.SameLine.{same_line}
 use Rattle.conversion.proofs.ThereAndBack.{converted_back}
 use Rattle.conversion.proofs.Written.{taken, written}
 
 -- The premises are the contracts, and that `convert` returned its count.
-module _ (sheet lent bytes : List ℕ) (asked count : ℕ) (a : FillAnswer)
+module _ (sheet lent bytes : List ℕ) (asked count : ℕ) (a : Result ℕ Refusal)
     (answer : fill_reply_of a ≡ (conversion sheet asked lent).reply) (memory : bytes ≡ (conversion sheet asked lent).buffer)
     (counted : fill_reply_of a ≡ filled count) where
   checked : outcome (convert_checks sheet asked) ≡ passed
@@ -26,18 +28,19 @@ module _ (sheet lent bytes : List ℕ) (asked count : ℕ) (a : FillAnswer)
   front = ap (take count) memory ∙ written sheet lent asked (sym answer ∙ counted)
 
   -- What `convert` wrote, `read` takes: the edition that was asked for, and the line of the sheet.
-  pub converted_and_read : (r : ReadAnswer)
-      → outcome_of r.verdict ≡ outcome (read_checks (take count bytes))
-      → r.edition ≡ read_edition (take count bytes)
-      → r.line ≡ read_line (take count bytes)
-      → (outcome_of r.verdict ≡ passed) × (r.edition ≡ asked) × (r.line ≡ read_line sheet)
+  pub converted_and_read : (r : Result SheetLine Refusal)
+      → outcome_of r ≡ outcome (read_checks (take count bytes))
+      → IfOk r (λ x. x.edition ≡ read_edition (take count bytes))
+      → IfOk r (λ x. x.line ≡ read_line (take count bytes))
+      → r ≡ Ok (record { edition = asked; line = read_line sheet })
   converted_and_read r says edition content =
       let same = same_line sheet asked checked in
-      (says ∙ ap (λ (s : List ℕ). outcome (read_checks s)) front ∙ same.reads, edition ∙ ap read_edition front ∙ same.edition, content ∙ ap (λ (s : List ℕ). read_line s) front ∙ same.line)
+      read_answer (take count bytes) r says edition content (ap (λ (s : List ℕ). outcome (read_checks s)) front ∙ same.reads)
+      ∙ λ j. Ok (record { edition = (ap read_edition front ∙ same.edition) j; line = (ap (λ (s : List ℕ). read_line s) front ∙ same.line) j })
 
   -- Converted back, asked for the edition that the sheet had, into bytes that are enough: the sheet's bytes. One premise more is the first call's
   -- contract `back`.
-  pub there_and_back : converted (take count bytes) (read_edition sheet) ≡ sheet → (lent' bytes' : List ℕ) (a' : FillAnswer)
+  pub there_and_back : converted (take count bytes) (read_edition sheet) ≡ sheet → (lent' bytes' : List ℕ) (a' : Result ℕ Refusal)
       → fill_reply_of a' ≡ (conversion (take count bytes) (read_edition sheet) lent').reply
       → bytes' ≡ (conversion (take count bytes) (read_edition sheet) lent').buffer
       → length sheet ≤ length lent'

@@ -5,5 +5,6 @@ pub mod ThereAndBack
 pub mod EveryFirst
 pub mod Refusals
 pub mod Written
+pub mod WaysOut
 pub mod Calls
 pub mod Examples

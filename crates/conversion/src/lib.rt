@@ -8,10 +8,11 @@ ghost use Rattle.refusals.specs.Filling.{filled, fill_reply_of};
 ghost use Rattle.packed_sheet.specs.Reading.{read_edition};
 ghost use Rattle.conversion.specs.Conversion.{other_number, asked_checks, converted, conversion};
 
-use refusals::{FillAnswer, Refusal, Verdict, first, must};
+use refusals::{Refusal, must};
 use sheet::edition_numbered;
 
 // The number of the other edition.
+#[tactic(auto, unfolding(crate::specs::Conversion::other_number))]
 fn other_number(number: u32) -> u32
     ensures { result ≡ other_number number }
 {
@@ -19,30 +20,24 @@ fn other_number(number: u32) -> u32
 }
 
 // The first of refusals 2 and 24 of an edition asked for, for a sheet of edition `number` whose line has that start, in mm.
-fn check_asked(number: u32, start: u32, asked: u32) -> Verdict
+#[tactic(auto, unfolding(crate::specs::Conversion::asked_checks))]
+fn check_asked(number: u32, start: u32, asked: u32) -> Result<(), Refusal>
     ensures { outcome_of result ≡ outcome (asked_checks number start asked) }
 {
-    let other = must(asked == other_number(number), Refusal::Edition);
-    let edition = edition_numbered(asked);
-    let near = must(start <= edition.greatest, Refusal::FarStart);
-    first(other, near)
+    must(asked == other_number(number), Refusal::Edition)?;
+    must(start <= edition_numbered(asked).greatest, Refusal::FarStart)
 }
 
 // The sheet of the same line in the other edition, which is asked for by its number, at the front of `bytes`. Answers its length in bytes, or
 // the first refusal: the reader's 1 to 11, 2 where another edition is asked for, 24 where edition 1 is and the start is over 200,000,000 mm,
 // then 16; a refusal leaves `bytes` as they were. Any bytes and any number are taken. What it writes is converted back to the same sheet.
-pub fn convert(sheet: &[u8], edition: u32, bytes: &mut [u8]) -> FillAnswer
+#[tactic(auto, using(crate::proofs::WaysOut::converting))]
+pub fn convert(sheet: &[u8], edition: u32, bytes: &mut [u8]) -> Result<usize, Refusal>
     ensures answer { fill_reply_of result ≡ (conversion sheet.now edition bytes.old).reply }
     ensures memory { bytes.new ≡ (conversion sheet.now edition bytes.old).buffer }
     ensures back { (count : ℕ) → fill_reply_of result ≡ filled count → converted (take count bytes.new) (read_edition sheet.now) ≡ sheet.now }
 {
-    let read = sheet::read(sheet);
-    let line = read.line;
-    let reading = read.verdict;
-    let asked = check_asked(read.edition, line.start, edition);
-    let verdict = first(reading, asked);
-    match verdict {
-        Verdict::Pass => sheet::write(edition, line, &mut *bytes),
-        Verdict::Refused(refusal) => FillAnswer::Refused(refusal),
-    }
+    let read = sheet::read(sheet)?;
+    check_asked(read.edition, read.line.start, edition)?;
+    sheet::write(edition, read.line, bytes)
 }
