@@ -1,45 +1,55 @@
-// Heights on a grade and in a vertical curve. A height h is in millionths of a mm, a grade in millionths, a distance in mm.
-ghost use Rattle.std.specs.Prelude.{◌≡◌, ◌+◌, ◌*◌, ◌≤◌, ◌<◌, pos, nat_abs, ◌-ℤ◌, ◌*ℤ◌};
-ghost use Rattle.numbers.specs.Whole.{down};
-ghost use Rattle.grades.specs.Heights.{along_grade, height_on, height_in};
+// Straight grades, and the heights on them.
+ghost use Rattle.std.specs.Prelude.{◌≡◌, ◌+◌, ◌-◌, ◌*◌, ◌≤◌, pos, nat_abs};
+ghost use Rattle.grades.specs.Heights.{along_grade, height_on};
 
-use crate::whole::{floor, minus, plus, times};
-
-// The height x mm farther on a grade, in millionths of a mm.
-pub(crate) fn along_grade(h: i64, grade: i64, x: u64) -> i64
-    requires { (nat_abs h ≤ 100000000000000) × (nat_abs grade ≤ 120000) × (x ≤ 200000000) }
-    ensures { (result ≡ along_grade h grade (pos x)) × (nat_abs result ≤ nat_abs h + 24000000000000) }
-{
-    plus(h, times(grade, x))
+// The straight grade that goes out of a point of a profile.
+#[derive(Clone, Copy)]
+pub(crate) struct Straight {
+    // The station of the point, in mm.
+    pub(crate) station: u64,
+    // Its height, in millionths of a mm.
+    pub(crate) height: i64,
+    // The grade, in millionths.
+    pub(crate) grade: i64,
+    ghost near: { station ≤ 200000000 },
+    ghost flat: { nat_abs grade ≤ 120000 },
+    ghost high: { nat_abs height ≤ 10000000000000 + 120000 * station },
 }
 
-// The same in mm.
-pub(crate) fn height_on(h: i64, grade: i64, x: u64) -> i64
-    requires { (nat_abs h ≤ 100000000000000) × (nat_abs grade ≤ 120000) × (x ≤ 200000000) }
-    ensures { result ≡ height_on h grade (pos x) }
-{
-    floor(along_grade(h, grade, x), 1000000)
-}
+impl Straight {
+    // The height at a station farther on, in millionths of a mm.
+    pub(crate) fn carried_height(self, station: u64) -> i64
+        requires from { self.station ≤ station }
+        requires known { station ≤ 200000000 }
+        ensures height { result ≡ along_grade self.height self.grade (pos (station - self.station)) }
+        ensures high { nat_abs result ≤ 10000000000000 + 120000 * station }
+    {
+        self.height + self.grade * (station - self.station) as i64
+    }
 
-// How far a curve lies above its first grade, x mm after its beginning, in millionths of a mm, rounded down.
-fn above_grade(incoming: i64, outgoing: i64, length: u64, x: u64) -> i64
-    requires { (nat_abs incoming ≤ 120000) × (nat_abs outgoing ≤ 120000) × (0 < length) × (length ≤ 2000000) × (x ≤ length) }
-    ensures { (result ≡ down ((outgoing -ℤ incoming) *ℤ pos (x * x)) (2 * length)) × (nat_abs result ≤ 960000000000000000) }
-{
-    floor(times(minus(outgoing, incoming), x * x), 2 * length)
-}
+    // The same in mm, rounded down.
+    #[tactic(auto, unfolding(grades::specs::Heights::height_on))]
+    pub(crate) fn height_on(self, station: u64) -> i64
+        requires from { self.station ≤ station }
+        requires known { station ≤ 200000000 }
+        ensures { result ≡ height_on self.height self.grade (pos (station - self.station)) }
+    {
+        self.carried_height(station).div_euclid(1000000)
+    }
 
-// The height in a curve, in mm, x mm after its beginning.
-pub(crate) fn height_in(h: i64, incoming: i64, outgoing: i64, length: u64, x: u64) -> i64
-    requires h_bound { (nat_abs h ≤ 100000000000000) × (nat_abs incoming ≤ 120000) × (nat_abs outgoing ≤ 120000) }
-    requires length_nonzero { (0 < length) × (length ≤ 2000000) × (x ≤ length) }
-    ensures { result ≡ height_in h incoming outgoing length x }
-{
-    floor(
-        plus(
-            along_grade(h, incoming, x),
-            above_grade(incoming, outgoing, length, x),
-        ),
-        1000000,
-    )
+    // The straight grade that goes out of a point farther on.
+    pub(crate) fn onward(self, station: u64, grade: i64) -> Straight
+        requires from { self.station ≤ station }
+        requires known { station ≤ 200000000 }
+        requires flat { nat_abs grade ≤ 120000 }
+        ensures station { result.station ≡ station }
+        ensures height { result.height ≡ along_grade self.height self.grade (pos (station - self.station)) }
+        ensures grade { result.grade ≡ grade }
+    {
+        Straight {
+            station,
+            height: self.carried_height(station),
+            grade,
+        }
+    }
 }
