@@ -1,4 +1,4 @@
 -- Laws that the code of `heights` needs.
 pub mod Passes
-pub mod NextCurve
-pub mod Parts
+pub mod Carried
+pub mod Ahead

@@ -2,9 +2,9 @@
 #![tactic(auto)]
 
 mod checks;
-mod parabola;
+mod curve;
 mod stopping;
+mod straight;
 mod walk;
-mod whole;
 
 pub use walk::height_at;

@@ -1,8 +1,9 @@
 -- Heights at the places where a rule shows, and the orders, places and limits of the refusals, by computation. Assumes nothing.
 use mathlib.Core.Path.{◌≡◌, refl}
-use mathlib.Core.List.{List, [], ◌∷◌, map}
+use mathlib.Core.List.{List, [], ◌∷◌}
 use Prim.Native.Nat.{ℕ, zero, suc, ◌+◌}
 use lib.IntN.{ℤ, pos, neg_ℤ}
+use Rattle.std.specs.Prelude.{Ok, Err}
 use Rattle.numbers.specs.Fractions.{whole, ◌⊕◌, ◌⊗◌, ◌⊘◌, ◌↑◌, over, ratio}
 use Rattle.refusals.specs.declared.Refusal.TheVariants.{Sight}
 use Rattle.refusals.specs.Outcomes.{first_of}
@@ -11,17 +12,11 @@ use Rattle.line.specs.Speeds.{under_speed}
 use Rattle.sight.specs.Sight.{long_enough, sight_serves}
 use Rattle.sight.specs.Formulas.{stopping, rounded_up, stopping_distance}
 use Rattle.grades.specs.Heights.{height_on, height_in}
+use Rattle.profile.specs.declared.Vertex.{Vertex}
 use Rattle.profile.specs.declared.Profile.{Profile}
-use Rattle.profile.specs.declared.HeightAnswer.TheVariants.{Found, Refused}
 use Rattle.profile.specs.Vertices.{station_of, grade_of, length_of, begin_of, end_of, run_to, height_of}
 use Rattle.profile.specs.Checks.{station_check, height_check, grade_check, length_check, sight_check, range_checks, profile_checks, asked_check, height_checks}
 use Rattle.profile.specs.HeightAt.{on_grade, begin_height, in_curve, height_from, height_by, height_reply_of, height_reply}
-
--- A vertex.
-pub record Vertex : Type 0 where
-  pub station : ℕ
-  pub grade : ℤ
-  pub length : ℕ
 
 abbrev vertex : (station : ℕ) (grade : ℤ) (length : ℕ) → Vertex
 vertex station grade length = record { station = station; grade = grade; length = length }
@@ -34,9 +29,7 @@ profile v start height grade count vertices =
       height = height;
       grade = grade;
       count = count;
-      stations = map (λ (u : Vertex). u.station) vertices;
-      grades = map (λ (u : Vertex). u.grade) vertices;
-      lengths = map (λ (u : Vertex). u.length) vertices;
+      vertices = vertices;
     }
 
 -- V 60, start 1,000, height -3, first grade 33,333; two vertices.
@@ -122,8 +115,8 @@ pub record Examples : Type 0 where
   pub before_start : height_reply one 999 ≡ declined 17 0
   pub beyond : height_reply one 200000001 ≡ declined 17 0
   -- ---- what the cases say
-  pub found_says : height_reply_of (Found (neg_ℤ (pos 3))) ≡ below 3
-  pub refused_says : height_reply_of (Refused (Sight 32)) ≡ declined 23 32
+  pub found_says : height_reply_of (Ok (neg_ℤ (pos 3))) ≡ below 3
+  pub refused_says : height_reply_of (Err (Sight 32)) ≡ declined 23 32
 
 pub examples : Examples
 unfolding first_of whole ◌⊕◌ ◌⊗◌ ◌⊘◌ ◌↑◌ over ratio under_speed stopping rounded_up stopping_distance long_enough sight_serves height_on height_in station_of grade_of length_of begin_of end_of run_to height_of station_check height_check grade_check length_check sight_check range_checks profile_checks asked_check height_checks on_grade begin_height in_curve height_from height_by reply height_reply

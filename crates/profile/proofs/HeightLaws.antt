@@ -140,10 +140,8 @@ module _ (p : Profile) (ok : ProfileInRange p) where
                 (sag_above_outgoing (begin_height p k) (grade_of p k) (grade_of p (suc k)) (length_of p (suc k) / 2) (station - begin_of p (suc k)) (end_of p (suc k) - station) s.3 all g e),
           )
 
--- A profile that passes the checks of its range.
-pub height_laws : (p : Profile) → outcome (range_checks p) ≡ passed → HeightLaws p
-height_laws p h =
-    let ok = profile_in_range p h in
+pub in_range_laws : (p : Profile) → ProfileInRange p → HeightLaws p
+in_range_laws p ok =
     record {
       on_grade_lem = λ k station more from to. on_grade_lem p ok station k more from to;
       on_last = on_last p ok;
@@ -151,3 +149,7 @@ height_laws p h =
       crest = λ k station g more e from to. crest p ok k more station g from to e;
       sag = λ k station g more e from to. sag p ok k more station g from to e;
     }
+
+-- A profile that passes the checks of its range.
+pub height_laws : (p : Profile) → outcome (range_checks p) ≡ passed → HeightLaws p
+height_laws p h = in_range_laws p (profile_in_range p h)

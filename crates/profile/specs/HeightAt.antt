@@ -1,11 +1,9 @@
 -- Document 02, N5: the height at a station, in mm.
-use Rattle.std.specs.Prelude.{cond, ℕ, zero, suc, ◌-◌, leb, ℤ}
-use Rattle.refusals.specs.Table.{number_of, place_of}
-use Rattle.refusals.specs.Replying.{Reply, answered, declined, reply}
+use Rattle.std.specs.Prelude.{cond, ℕ, zero, suc, ◌-◌, leb, ℤ, Result}
+use Rattle.refusals.specs.declared.Refusal.{Refusal}
+use Rattle.refusals.specs.Replying.{Reply, reply_by, reply}
 use Rattle.grades.specs.Heights.{along_grade, height_on, height_in}
 use Rattle.profile.specs.declared.Profile.{Profile}
-use Rattle.profile.specs.declared.HeightAnswer.{HeightAnswer}
-use Rattle.profile.specs.declared.HeightAnswer.TheVariants.{Found, Refused}
 use Rattle.profile.specs.Vertices.{grade_of, length_of, begin_of, end_of, run_to, height_of}
 use Rattle.profile.specs.Checks.{height_checks}
 
@@ -35,9 +33,8 @@ unfoldable pub height_by : Profile → (station : ℕ) → ℤ
 height_by p station = height_from p station p.count 0
 
 -- What each case of the call's answer says.
-abbrev pub height_reply_of : HeightAnswer → Reply ℤ
-height_reply_of (Found height) = answered height
-height_reply_of (Refused r) = declined (number_of r) (place_of r)
+abbrev pub height_reply_of : Result ℤ Refusal → Reply ℤ
+height_reply_of r = reply_by (λ height. height) r
 
 -- What the call answers.
 unfoldable pub height_reply : Profile → (station : ℕ) → Reply ℤ

@@ -1,9 +1,18 @@
-// A profile (document 02, N5): its fields with their units, and what a height call answers; there are no functions here.
+// A profile (document 02, N5): its fields with their units; there are no functions here.
 #![tactic(auto)]
 
-use refusals::Refusal;
+// A vertex, where two grades meet. Any value of each type may stand here; the checks say which are in range.
+#[derive(Clone, Copy)]
+pub struct Vertex {
+    // The station, in mm.
+    pub station: u64,
+    // The grade that goes out of the vertex, in millionths.
+    pub grade: i64,
+    // The length of the curve, in mm, half of it before the vertex.
+    pub length: u64,
+}
 
-// A profile of `count` vertices: the first `count` entries of the arrays are used, the others mean nothing. Any value of each type may stand here;
+// A profile of `count` vertices: the first `count` entries of `vertices` are used, the others mean nothing. Any value of each type may stand here;
 // the checks say which are in range.
 #[derive(Clone, Copy)]
 pub struct Profile {
@@ -17,17 +26,6 @@ pub struct Profile {
     pub grade: i64,
     // The number n of vertices.
     pub count: usize,
-    // The station of each vertex, in mm.
-    pub stations: [u64; 32],
-    // The grade that goes out of each vertex, in millionths.
-    pub grades: [i64; 32],
-    // The length of the curve at each vertex, in mm, half of it before the vertex.
-    pub lengths: [u64; 32],
-}
-
-// A height in mm, or why there is none.
-#[derive(Clone, Copy)]
-pub enum HeightAnswer {
-    Found(i64),
-    Refused(Refusal),
+    // In the order of the road.
+    pub vertices: [Vertex; 32],
 }

@@ -3,7 +3,9 @@
 use Rattle.std.specs.Prelude.{List, [], ◌∷◌, ℕ, ◌+◌, ◌-◌, ◌*◌, ◌/◌, leb, eqb, ℤ, pos, negsuc, length, get_or}
 use Rattle.refusals.specs.Order.{Checks, check, ◌⨾◌}
 use Rattle.line.specs.Entries.{entries}
+use Rattle.profile.specs.declared.Vertex.{Vertex}
 use Rattle.profile.specs.declared.Profile.{Profile}
+use Rattle.profile.specs.Vertices.{blank_vertex}
 use Rattle.profile.specs.Checks.{height_checks}
 use Rattle.profile.specs.HeightAt.{height_by}
 
@@ -20,6 +22,15 @@ unfoldable pub unsigned : ℤ → ℕ
 unsigned (pos n) = n
 unsigned (negsuc n) = 18446744073709551615
 
+-- The vertex of entry i.
+abbrev pub vertex_of : List ℤ → ℕ → Vertex
+vertex_of numbers i =
+    record {
+      station = unsigned (number_at numbers (4 + 3 * i));
+      grade = number_at numbers (4 + 3 * i + 1);
+      length = unsigned (number_at numbers (4 + 3 * i + 2));
+    }
+
 -- The profile, its unused entries zero.
 unfoldable pub profile_of : List ℤ → Profile
 profile_of numbers =
@@ -29,9 +40,7 @@ profile_of numbers =
       height = number_at numbers 2;
       grade = number_at numbers 3;
       count = vertex_count numbers;
-      stations = entries 32 (vertex_count numbers) (λ i. unsigned (number_at numbers (4 + 3 * i))) 0;
-      grades = entries 32 (vertex_count numbers) (λ i. number_at numbers (4 + 3 * i + 1)) (pos 0);
-      lengths = entries 32 (vertex_count numbers) (λ i. unsigned (number_at numbers (4 + 3 * i + 2))) 0;
+      vertices = entries 32 (vertex_count numbers) (vertex_of numbers) blank_vertex;
     }
 
 -- 3, before all else: a count of numbers other than 4 + 3 × n

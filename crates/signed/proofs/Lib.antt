@@ -1,3 +1,3 @@
 -- Laws of signed numbers.
 pub mod Sizes
-pub mod Turning
+pub mod Quotients

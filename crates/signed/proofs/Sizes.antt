@@ -6,7 +6,7 @@ use native.Mathlib.Nat.{div-le_self}
 use native.Mathlib.Omega.{arith}
 use lib.Dec.{ltb}
 use lib.IntN.{ℤ, pos, negsuc, neg_ℤ, nat_abs, sub_ℕ, ◌+ℤ◌, ◌-ℤ◌, ◌*ℤ◌}
-use lib.Signed.{lt_z, mag}
+use lib.Signed.{mag}
 use mir.Syntax.{w64}
 use mir.Val.{SFits, to_z, of_z}
 use mir.Facts.{to_z-of_z}
@@ -57,15 +57,6 @@ module _ (op : ℤ → ℤ → ℤ) (x y : ℤ) (f : SFits w64 x) (g : SFits w64
   pub op_held : to_z w64 (of_z w64 (op (to_z w64 (of_z w64 x)) (to_z w64 (of_z w64 y)))) ≡ op x y
   op_held = rw (to_z-of_z f, to_z-of_z g) (to_z-of_z h)
 
--- A number below zero, and one that is not.
-pub below : (x : ℤ) → lt_z x (pos 0) ≡ true → x ≡ negsuc (mag x)
-below (pos a) e = absurd (omega (arith, ltb-true a 0 e))
-below (negsuc a) e = refl
-
-pub not_below : (x : ℤ) → lt_z x (pos 0) ≡ false → x ≡ pos (mag x)
-not_below (pos a) e = refl
-not_below (negsuc a) e = absurd (let z : ◌≡◌ {A = ℕ} 0 1 = cc in omega arith)
-
--- What a call hands back is what the machine holds: `kept c.f.ok`.
+-- What a call hands back is what the machine holds: `kept c.f.type_inv`.
 pub kept : {z : ℤ} → mag z < 9223372036854775808 → to_z w64 (of_z w64 z) ≡ z
 kept h = to_z-of_z {w = w64} (record { sfits = h })

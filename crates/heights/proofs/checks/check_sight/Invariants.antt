@@ -1,6 +1,5 @@
 -- `check_sight`: each turn adds a curve that is long enough. Assumes nothing.
 use mathlib.Core.Path.{◌≡◌}
-use Prim.Native.Nat.{◌-◌, ◌≤◌}
 use Rattle.refusals.specs.Outcomes.{passed}
 use Rattle.refusals.specs.Order.{in_turn, outcome}
 use Rattle.profile.specs.Vertices.{grade_of}
@@ -8,7 +7,8 @@ use Rattle.profile.specs.Checks.{sight_check}
 use Rattle.heights.proofs.checks.check_sight.Given as goal
 
 abbrev pub invariant-loop-i : goal.invariant-loop-i
-invariant-loop-i l = (l.i ≤ l.n) × (l.incoming ≡ grade_of l.profile l.i) × (outcome (in_turn (sight_check l.profile) l.i) ≡ passed)
-
-abbrev pub decreases-loop-i : goal.decreases-loop-i
-decreases-loop-i l = l.n - l.i
+invariant-loop-i l =
+    record {
+      at_vertex : l.incoming ≡ grade_of l.profile l.i;
+      passed_before : outcome (in_turn (sight_check l.profile) l.i) ≡ passed;
+    }

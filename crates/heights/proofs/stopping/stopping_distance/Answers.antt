@@ -7,7 +7,7 @@ use Rattle.line.proofs.SpeedTables.{tabled}
 use Rattle.sight.specs.Formulas.{stopping, rounded_up, stopping_distance}
 use Rattle.heights.proofs.stopping.stopping_distance.Goals as goal
 
-pub returns : goal.returns
+pub returns-clause-value : goal.returns-clause-value
 unfolding whole ◌⊕◌ ◌⊗◌ ◌⊘◌ ◌↑◌ over ratio under_speed stopping rounded_up stopping_distance
-returns c =
-    tabled stopping_distance 310 (45 ∷ 64 ∷ 85 ∷ 111 ∷ 140 ∷ 173 ∷ 211 ∷ 267 ∷ 310 ∷ []) refl refl _ _ c.requires.0 c.requires.1 c.requires.2 refl
+returns-clause-value c =
+    (tabled stopping_distance 310 (45 ∷ 64 ∷ 85 ∷ 111 ∷ 140 ∷ 173 ∷ 211 ∷ 267 ∷ 310 ∷ []) refl refl _ _ c.requires.least c.requires.most c.requires.tens refl).0

@@ -1,3 +1,0 @@
--- What the private steps of `heights` promise.
-pub mod Between
-pub mod Parts
