@@ -8,6 +8,7 @@ use lib.Dec.{leb}
 use lib.IntN.{ℤ, nat_abs}
 use lib.ListN.{length}
 use borrow.Author.Tests.{le-leb}
+use Rattle.std.specs.Prelude.{Ok}
 use Rattle.refusals.specs.Outcomes.{Outcome, passed, refused, need, ◌▹◌}
 use Rattle.refusals.specs.Order.{Checks, unchecked, ◌⨾◌, outcome}
 use Rattle.refusals.specs.Filling.{FillReply, filled, unfilled, count_after, with_room, fill}
@@ -29,7 +30,6 @@ use Rattle.elements.specs.declared.Elements.{Elements}
 use Rattle.elements.specs.Answer.{values_by, element_checks}
 use Rattle.elements.proofs.Replies.{FoundElements}
 use Rattle.elements.specs.declared.SpiralPoint.{SpiralPoint}
-use Rattle.elements.specs.declared.PointAnswer.TheVariants.{Found}
 use Rattle.elements.specs.SpiralPoint.{Offsets, point_reply_of}
 use Rattle.spiral_table.specs.LookUp.{end_by, look_up_checks, look_up_reply}
 use Rattle.stationing.specs.Stations.{station_row}
@@ -118,7 +118,7 @@ module _ (sheet : List ℕ) (accepted : outcome (read_checks sheet) ≡ passed) 
 
 -- The numbers of the line of points.
 pub points_reply : (v e start : ℕ) (points : List ℤ) (curves : List ℕ) → outcome (from_points_checks v e start points curves) ≡ passed
-    → {line : Line} → line ≡ line_after (outcome (from_points_checks v e start points curves)) (line_from v e start points curves)
+    → {line : Line} → line ≡ line_from v e start points curves
     → (buffer : List ℕ) {reply : FillReply} {after : List ℕ}
     → (reply ≡ (fill (few_check line) (line_numbers line) buffer).reply) × (after ≡ (fill (few_check line) (line_numbers line) buffer).buffer)
     → (reply ≡ (fill (from_points_checks v e start points curves) (point_numbers v e start points curves) buffer).reply)
@@ -126,8 +126,7 @@ pub points_reply : (v e start : ℕ) (points : List ℤ) (curves : List ℕ) →
 unfolding point_numbers
 points_reply v e start points curves accepted same =
     let whole = line_from v e start points curves in
-    line_reply (from_points_checks v e start points curves) whole accepted (few whole (line_accepted v e start points curves accepted))
-    (same ∙ ap (λ (o : Outcome). line_after o whole) accepted)
+    line_reply (from_points_checks v e start points curves) whole accepted (few whole (line_accepted v e start points curves accepted)) same
 
 -- The refusal of the edition or of a line's count is that of its numbers, and where there is none the writer's answer for their line is the one
 -- for them.
@@ -195,7 +194,7 @@ found_reply A R L e buffer f told =
 
 module _ (r L : ℕ) where
   -- The offsets that were looked up are the rule's,
-  pub found_end : (p : SpiralPoint) (buffer : List ℕ) {reply : FillReply} {after : List ℕ} → point_reply_of (Found p) ≡ look_up_reply r L
+  pub found_end : (p : SpiralPoint) (buffer : List ℕ) {reply : FillReply} {after : List ℕ} → point_reply_of (Ok p) ≡ look_up_reply r L
       → (reply ≡ (fill unchecked (end_numbers_of p) buffer).reply) × (after ≡ (fill unchecked (end_numbers_of p) buffer).buffer)
       → (reply ≡ (unit_spiral_in r L buffer).reply) × (after ≡ (unit_spiral_in r L buffer).buffer)
   unfolding look_up_reply end_numbers unit_spiral_in

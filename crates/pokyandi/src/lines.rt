@@ -20,7 +20,11 @@ pub(crate) fn sheet_numbers(sheet: &[u8], numbers: &mut [u32]) -> Result<usize, 
 }
 
 // The sheet of the line that the numbers spell, in the edition of a number, at the front of `bytes`, or the first refusal.
-pub(crate) fn write_numbers(edition: u32, numbers: &[u32], bytes: &mut [u8]) -> Result<usize, Refusal>
+pub(crate) fn write_numbers(
+    edition: u32,
+    numbers: &[u32],
+    bytes: &mut [u8],
+) -> Result<usize, Refusal>
     ensures result_value { fill_reply_of result ≡ (fill (told_checks edition numbers.now) (numbers_sheet edition numbers.now) bytes.old).reply }
     ensures bytes_after { bytes.new ≡ (fill (told_checks edition numbers.now) (numbers_sheet edition numbers.now) bytes.old).buffer }
 {

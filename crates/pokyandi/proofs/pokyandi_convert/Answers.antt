@@ -1,15 +1,8 @@
--- `pokyandi_convert` meets its contract. Assumes nothing.
-use mathlib.Core.Path.{◌∙◌, ap}
-use Rattle.pokyandi.specs.Answers.{answer_number}
+-- `pokyandi_convert`: what it counts is converted back to the sheet. Assumes nothing.
 use Rattle.pokyandi.proofs.ConvertedBack.{counted_back}
-use borrow.Author.Rules.{rules}
 use Rattle.pokyandi.proofs.pokyandi_convert.Goals as goal
 
-pub returns : goal.returns
-returns c =
+pub returns-clause-back : goal.returns-clause-back
+returns-clause-back c =
     let told = c.convert.ensures in
-    record {
-      answer = c.answer_number.ensures ∙ ap answer_number told.answer;
-      memory = told.memory;
-      back = counted_back _ _ _ _ _ _ told.answer c.answer_number.ensures told.back;
-    }
+    counted_back _ _ _ _ _ _ told.answer c.answer_number.ensures told.back

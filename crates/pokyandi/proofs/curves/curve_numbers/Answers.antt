@@ -1,28 +1,17 @@
--- `curve_numbers` meets its contract. Assumes nothing.
-use mathlib.Core.Path.{sym, ◌∙◌, ap}
-use Rattle.elements.specs.Answer.{reply_of}
+-- `curve_numbers`: the refusal of the curve, or its elements. Assumes nothing.
+use borrow.Author.Rules.{rules}
 use Rattle.elements.proofs.Replies.{found_elements, refused_elements}
 use Rattle.refusals.proofs.FillWays.{refused_fill}
+use Rattle.pokyandi.specs.Calls.{element_numbers}
 use Rattle.pokyandi.proofs.Replies.{found_reply}
-use borrow.Author.Rules.{rules}
 use Rattle.pokyandi.proofs.curves.curve_numbers.Goals as goal
 
-pub returns-in-Found : goal.returns-in-Found
-returns-in-Found c =
-    let met = (
-    let told = sym (ap reply_of c.in-Found.is) ∙ c.curve_elements-answer.ensures in
-    found_reply _ _ _ _ _ (found_elements _ _ _ _ told) (c.store_elements.ensures.result_value, c.store_elements.ensures.numbers_after)) in
-    record {
-      result_value = met.0;
-      numbers_after = met.1;
-    }
+pub returns-in_err-e : goal.returns-in_err-e
+returns-in_err-e c =
+    let met = refused_fill _ (element_numbers c.args.deflection c.args.radius c.args.spiral) c.args.numbers.now (refused_elements c.args.deflection c.args.radius c.args.spiral c.in_err-e.field-0.0 c.in_err-e.ensures) in
+    record { result_value = search rules; numbers_after = met.1 }
 
-pub returns-in-Refused : goal.returns-in-Refused
-returns-in-Refused c =
-    let met = (
-    let told = sym (ap reply_of c.in-Refused.is) ∙ c.curve_elements-answer.ensures in
-    refused_fill _ _ _ (refused_elements _ _ _ c.in-Refused.refusal told)) in
-    record {
-      result_value = met.0;
-      numbers_after = met.1;
-    }
+pub returns : goal.returns
+returns c =
+    let met = found_reply c.args.deflection c.args.radius c.args.spiral c.in_ok-e.e c.args.numbers.now (found_elements _ _ _ c.in_ok-e.e c.in_ok-e.ensures) (c.fill_front.ensures.answer, c.fill_front.ensures.memory) in
+    record { result_value = met.0; numbers_after = met.1 }

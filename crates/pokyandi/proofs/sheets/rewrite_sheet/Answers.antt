@@ -1,28 +1,16 @@
--- `rewrite_sheet` meets its contract. Assumes nothing.
-use mathlib.Core.Path.{sym, ◌∙◌, ap}
-use Rattle.refusals.specs.Outcomes.{outcome_of}
+-- `rewrite_sheet`: the reader's refusal, or the writer's answer. Assumes nothing.
+use mathlib.Core.Path.{sym}
+use borrow.Author.Rules.{rules}
 use Rattle.refusals.proofs.FillWays.{refused_fill}
 use Rattle.pokyandi.proofs.Replies.{rewrite_reply}
-use borrow.Author.Rules.{rules}
 use Rattle.pokyandi.proofs.sheets.rewrite_sheet.Goals as goal
 
-pub returns-in-Pass : goal.returns-in-Pass
-returns-in-Pass c =
-    let met = (
-    let read = c.read-read.ensures in
-    let told = ap outcome_of c.in-Pass.is in
-    rewrite_reply _ (sym read.answer ∙ told) read.line read.edition (read.again told) _ (c.write.ensures.answer, c.write.ensures.memory)) in
-    record {
-      result_value = met.0;
-      bytes_after = met.1;
-    }
+pub returns-in_err-read : goal.returns-in_err-read
+returns-in_err-read c =
+    let met = refused_fill _ c.args.sheet.now c.args.bytes.now (sym c.in_err-read.ensures.answer) in
+    record { result_value = search rules; bytes_after = met.1 }
 
-pub returns-in-Refused : goal.returns-in-Refused
-returns-in-Refused c =
-    let met = (
-    let refusal = sym c.read-read.ensures.answer ∙ ap outcome_of c.in-Refused.is in
-    refused_fill _ _ _ refusal) in
-    record {
-      result_value = met.0;
-      bytes_after = met.1;
-    }
+pub returns : goal.returns
+returns c =
+    let met = rewrite_reply c.args.sheet.now (sym c.in_ok-read.ensures.answer) c.in_ok-read.ensures.line c.in_ok-read.ensures.edition c.in_ok-read.ensures.again c.args.bytes.now (c.write.ensures.answer, c.write.ensures.memory) in
+    record { result_value = met.0; bytes_after = met.1 }

@@ -1,14 +1,13 @@
--- `sheet_edition` meets its contract. Assumes nothing.
-use mathlib.Core.Path.{sym, ◌∙◌, ap}
-use Rattle.refusals.specs.Outcomes.{outcome_of}
-use Rattle.pokyandi.proofs.Replies.{edition_reply_lem, refused_edition}
+-- `sheet_edition`: the reader's refusal, or the edition that it reads. Assumes nothing.
+use mathlib.Core.Path.{sym}
 use borrow.Author.Rules.{rules}
+use Rattle.pokyandi.proofs.Replies.{edition_reply_lem, refused_edition}
 use Rattle.pokyandi.proofs.sheets.sheet_edition.Goals as goal
 
-pub returns-in-Pass : goal.returns-in-Pass
-returns-in-Pass c =
-    let read = c.read-read.ensures in
-    edition_reply_lem _ (sym read.answer ∙ ap outcome_of c.in-Pass.is) read.edition
+pub returns-in_err-read : goal.returns-in_err-read
+returns-in_err-read c =
+    let met = refused_edition c.args.sheet.now (sym c.in_err-read.ensures.answer) in
+    search rules
 
-pub returns-in-Refused : goal.returns-in-Refused
-returns-in-Refused c = refused_edition _ (sym c.read-read.ensures.answer ∙ ap outcome_of c.in-Refused.is)
+pub returns : goal.returns
+returns c = edition_reply_lem c.args.sheet.now (sym c.in_ok-read.ensures.answer) c.in_ok-read.ensures.edition

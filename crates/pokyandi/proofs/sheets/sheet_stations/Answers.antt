@@ -1,27 +1,15 @@
--- `sheet_stations` meets its contract. Assumes nothing.
-use mathlib.Core.Path.{sym, ◌∙◌, ap}
-use Rattle.refusals.specs.Outcomes.{outcome_of}
-use Rattle.pokyandi.proofs.Replies.{refused_sheet, stations_reply}
+-- `sheet_stations`: the reader's refusal, or the calculator's answer. Assumes nothing.
+use mathlib.Core.Path.{sym}
 use borrow.Author.Rules.{rules}
+use Rattle.pokyandi.proofs.Replies.{refused_sheet, stations_reply}
 use Rattle.pokyandi.proofs.sheets.sheet_stations.Goals as goal
 
-pub returns-in-Pass : goal.returns-in-Pass
-returns-in-Pass c =
-    let met = (
-    let read = c.read-read.ensures in
-    let passes = sym read.answer ∙ ap outcome_of c.in-Pass.is in
-    stations_reply _ passes read.line _ (c.stations.ensures.answer, c.stations.ensures.memory)) in
-    record {
-      result_value = met.0;
-      row_after = met.1;
-    }
+pub returns-in_err-read : goal.returns-in_err-read
+returns-in_err-read c =
+    let met = refused_sheet c.args.sheet.now c.args.row.now (sym c.in_err-read.ensures.answer) in
+    record { result_value = search rules; row_after = met.1 }
 
-pub returns-in-Refused : goal.returns-in-Refused
-returns-in-Refused c =
-    let met = (
-    let refusal = sym c.read-read.ensures.answer ∙ ap outcome_of c.in-Refused.is in
-    refused_sheet _ _ refusal) in
-    record {
-      result_value = met.0;
-      row_after = met.1;
-    }
+pub returns : goal.returns
+returns c =
+    let met = stations_reply c.args.sheet.now (sym c.in_ok-read.ensures.answer) c.in_ok-read.ensures.line c.args.row.now (c.stations.ensures.answer, c.stations.ensures.memory) in
+    record { result_value = met.0; row_after = met.1 }
