@@ -66,7 +66,8 @@ fn line_of(numbers: &[u32]) -> Line
 }
 
 // The line of numbers, its unused entries zero; after refusal 3 a line whose fields are all zero. A curve whose side is neither 0 nor 1 has
-// no deflection, which 9 refuses. Any numbers are taken; their ranges are checked by whoever takes the line.
+// no deflection, which 9 refuses. Any numbers are taken; their ranges are checked by whoever takes the line. It answers a line in either case,
+// and no `Result`: a caller asks `check_count` first.
 #[tactic(auto, using(crate::proofs::LineAndNumbers::few_counted, crate::proofs::LineAndNumbers::all_counted))]
 pub fn read(numbers: &[u32]) -> Line
     ensures { result ≡ line_after (outcome (count_check numbers.now)) (line_of numbers.now) }

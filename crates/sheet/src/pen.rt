@@ -1,5 +1,6 @@
 // The fields of a line's sheet put into the caller's bytes, most significant bit first: each byte is stored once, in ascending order. The
-// line and the edition whose sheet it is are ghost values, which the contracts name; no function here reads them.
+// line and the edition whose sheet it is are ghost values, which the contracts name; no function here reads them. The bytes stand beside the
+// pen: a struct that held the `&mut` would need a clause in each contract that it is still the same.
 ghost use Rattle.std.specs.Prelude.{◌≡◌, ℕ, ◌+◌, ◌*◌, ◌/◌, ◌%◌, ◌^◌, ◌<◌, ◌≤◌, length, get_or};
 ghost use Rattle.bits.specs.Bits.{bits_at};
 ghost use Rattle.packed_sheet.specs.EachStore.{Store, Stores};
