@@ -1,11 +1,11 @@
 // The checks of a profile: refusals 3, 4 and 6, then 22, 21 and 23, a pass over the vertices each.
-ghost use Rattle.std.specs.Prelude.{◌≡◌, ℕ, suc, ◌≤◌, leb, nat_abs};
+ghost use Rattle.std.specs.Prelude.{◌≡◌, ℕ, suc, ◌≤◌, leb, nat_abs, IfOk};
 ghost use Rattle.refusals.specs.Outcomes.{outcome_of, need};
 ghost use Rattle.refusals.specs.Order.{in_turn, outcome};
 ghost use Rattle.profile.specs.Vertices.{station_of};
 ghost use Rattle.profile.specs.Checks.{curve_fits, station_check, grade_check, length_check, sight_check, range_checks, profile_checks};
-ghost use Rattle.profile.specs.Checked.{ProfileInRange};
 
+use crate::ranged::Ranged;
 use crate::stopping::{sight_serves, stopping_distance};
 use line::check_speed;
 use profile::{Profile, Vertex};
@@ -75,11 +75,26 @@ fn check_lengths(profile: &Profile) -> Result<(), Refusal>
     Ok(())
 }
 
-// Refusal 23 of each curve.
-fn check_sight(profile: &Profile) -> Result<(), Refusal>
-    requires { ProfileInRange profile.now }
-    ensures { outcome_of result ≡ outcome (in_turn (sight_check profile.now) profile.now.count) }
+// Refusals 3, 4, 6, 22 and 21.
+#[tactic(auto, unfolding(profile::specs::Checks::range_checks, profile::specs::Checks::height_check))]
+fn check_range(profile: &Profile) -> Result<Ranged<'_>, Refusal>
+    ensures answer { outcome_of result ≡ outcome (range_checks profile.now) }
+    ensures same { IfOk result (λ ranged. ranged.profile.now ≡ profile.now) }
 {
+    must(profile.count <= 32, Refusal::CurveCount)?;
+    check_speed(profile.speed)?;
+    check_stations(profile)?;
+    must(profile.height.unsigned_abs() <= 10000000, Refusal::Start)?;
+    check_grades(profile)?;
+    check_lengths(profile)?;
+    Ok(Ranged { profile })
+}
+
+// Refusal 23 of each curve.
+fn check_sight(ranged: Ranged) -> Result<(), Refusal>
+    ensures { outcome_of result ≡ outcome (in_turn (sight_check ranged.entry.profile.now) ranged.entry.profile.now.count) }
+{
+    let profile = ranged.profile;
     let distance = stopping_distance(profile.speed);
     let mut incoming = profile.grade;
     for (i, vertex) in profile.vertices[..profile.count].iter().enumerate() {
@@ -92,24 +107,13 @@ fn check_sight(profile: &Profile) -> Result<(), Refusal>
     Ok(())
 }
 
-// Refusals 3, 4, 6, 22 and 21.
-#[tactic(auto, unfolding(profile::specs::Checks::range_checks, profile::specs::Checks::height_check))]
-fn check_range(profile: &Profile) -> Result<(), Refusal>
-    ensures { outcome_of result ≡ outcome (range_checks profile.now) }
-{
-    must(profile.count <= 32, Refusal::CurveCount)?;
-    check_speed(profile.speed)?;
-    check_stations(profile)?;
-    must(profile.height.unsigned_abs() <= 10000000, Refusal::Start)?;
-    check_grades(profile)?;
-    check_lengths(profile)
-}
-
 // The first refusal of a profile.
 #[tactic(auto, unfolding(profile::specs::Checks::profile_checks))]
-pub(crate) fn check_profile(profile: &Profile) -> Result<(), Refusal>
-    ensures { outcome_of result ≡ outcome (profile_checks profile.now) }
+pub(crate) fn check_profile(profile: &Profile) -> Result<Ranged<'_>, Refusal>
+    ensures answer { outcome_of result ≡ outcome (profile_checks profile.now) }
+    ensures same { IfOk result (λ ranged. ranged.profile.now ≡ profile.now) }
 {
-    check_range(profile)?;
-    check_sight(profile)
+    let ranged = check_range(profile)?;
+    check_sight(ranged)?;
+    Ok(ranged)
 }

@@ -3,6 +3,7 @@
 
 mod checks;
 mod curve;
+mod ranged;
 mod stopping;
 mod straight;
 mod walk;

@@ -17,32 +17,32 @@ use Rattle.heights.proofs.checks.check_sight.Goals as goal
 pub loop-i-init : goal.loop-i-init
 unfolding grade_of
 loop-i-init c =
-    let p = c.args.profile.now in
+    let p = c.args.ranged.profile.now in
     let held : SFits w64 p.grade = search rules in
     simp to_z-of_z (record { at_vertex = refl; passed_before = none (sight_check p) })
 
 pub sight_serves-requires-clause-outgoing_flat : goal.sight_serves-requires-clause-outgoing_flat
 unfolding grade_of
 sight_serves-requires-clause-outgoing_flat c =
-    let p = c.args.profile.now in
+    let p = c.args.ranged.profile.now in
     let at = c.loop-i in
     let more : at.i < p.count = omega arith in
     let held : SFits w64 (get_or (take p.count p.vertices) at.i blank_vertex).grade = search rules in
-    let flat = c.requires.flat (suc at.i) more in
+    let flat = c.args.ranged.in_range.flat (suc at.i) more in
     simp to_z-of_z (simp (get_or-take p.count p.vertices at.i blank_vertex more) flat)
 
 pub sight_serves-requires-clause-short : goal.sight_serves-requires-clause-short
 unfolding length_of
 sight_serves-requires-clause-short c =
-    let p = c.args.profile.now in
+    let p = c.args.ranged.profile.now in
     let at = c.loop-i in
     let more : at.i < p.count = omega arith in
-    simp (get_or-take p.count p.vertices at.i blank_vertex more) (c.requires.most at.i more)
+    simp (get_or-take p.count p.vertices at.i blank_vertex more) (c.args.ranged.in_range.most at.i more)
 
 pub returns-in_err-must : goal.returns-in_err-must
 unfolding sight_check length_of grade_of
 returns-in_err-must c =
-    let p = c.args.profile.now in
+    let p = c.args.ranged.profile.now in
     let at = c.loop-i in
     let more : at.i < p.count = omega arith in
     let held : SFits w64 (get_or (take p.count p.vertices) at.i blank_vertex).grade = search rules in
@@ -55,7 +55,7 @@ returns-in_err-must c =
 pub loop-i-preserved : goal.loop-i-preserved
 unfolding sight_check length_of grade_of
 loop-i-preserved c =
-    let p = c.args.profile.now in
+    let p = c.args.ranged.profile.now in
     let at = c.loop-i in
     let more : at.i < p.count = omega arith in
     let held : SFits w64 (get_or (take p.count p.vertices) at.i blank_vertex).grade = search rules in

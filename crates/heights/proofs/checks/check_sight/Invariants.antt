@@ -9,6 +9,6 @@ use Rattle.heights.proofs.checks.check_sight.Given as goal
 abbrev pub invariant-loop-i : goal.invariant-loop-i
 invariant-loop-i l =
     record {
-      at_vertex : l.incoming ≡ grade_of l.profile l.i;
-      passed_before : outcome (in_turn (sight_check l.profile) l.i) ≡ passed;
+      at_vertex : l.incoming ≡ grade_of l.ranged.profile.now l.i;
+      passed_before : outcome (in_turn (sight_check l.ranged.profile.now) l.i) ≡ passed;
     }
