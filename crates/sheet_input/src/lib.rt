@@ -29,7 +29,8 @@ impl Input {
     }
 }
 
-// Reads until `bytes` is full or the input ends, and answers how many bytes it put at the start of `bytes`, or why a read failed.
+// Reads until `bytes` is full or the input ends, and answers how many bytes it put at the start of `bytes`, or why a read failed. (A loop by
+// hand: `read_to_end` would take memory for a longer input, and `read_exact` fails on a shorter one.)
 fn read_bytes(input: &mut impl Read, bytes: &mut [u8]) -> io::Result<usize>
     ensures { ReadsAtMost result bytes.new }
 {
