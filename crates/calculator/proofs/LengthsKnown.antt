@@ -26,20 +26,20 @@ whole_lengths line l few s a =
 
 -- A measured line passes 3 to 15, and each of its lengths is the rule's and in range.
 module _ (m : MeasuredLine) where
-  pub ranges : Accepted m.line
-  ranges = accepted m.line m.checked
+  pub ranges : Accepted m.line.now
+  ranges = accepted m.line.now m.checked
 
-  pub known_straight : (i : ℕ) → i ≤ m.line.count → pos (get_or m.lengths.straights i 0) ≡ straight_at m.line i
+  pub known_straight : (i : ℕ) → i ≤ m.line.now.count → pos (get_or m.lengths.now.straights i 0) ≡ straight_at m.line.now i
   unfolding lengths_by
   known_straight i h =
-      entry_known (straight_at m.line) 65 (suc m.line.count) m.lengths.straights (omega (arith, ranges.in_range.few)) (ap (λ (v : Lengths). v.straights) m.known) i (omega arith)
+      entry_known (straight_at m.line.now) 65 (suc m.line.now.count) m.lengths.now.straights (omega (arith, ranges.in_range.few)) (ap (λ (v : Lengths). v.straights) m.known) i (omega arith)
 
-  pub straight_most : (i : ℕ) → i ≤ m.line.count → get_or m.lengths.straights i 0 ≤ 20000000000
+  pub straight_most : (i : ℕ) → i ≤ m.line.now.count → get_or m.lengths.now.straights i 0 ≤ 20000000000
   straight_most i h = at_most (known_straight i h) (ranges.straight i h)
 
-  pub known_arc : (i : ℕ) → i < m.line.count → pos (get_or m.lengths.arcs i 0) ≡ arc_at m.line i
+  pub known_arc : (i : ℕ) → i < m.line.now.count → pos (get_or m.lengths.now.arcs i 0) ≡ arc_at m.line.now i
   unfolding lengths_by
-  known_arc i h = entry_known (arc_at m.line) 64 m.line.count m.lengths.arcs ranges.in_range.few (ap (λ (v : Lengths). v.arcs) m.known) i h
+  known_arc i h = entry_known (arc_at m.line.now) 64 m.line.now.count m.lengths.now.arcs ranges.in_range.few (ap (λ (v : Lengths). v.arcs) m.known) i h
 
-  pub arc_most : (i : ℕ) → i < m.line.count → get_or m.lengths.arcs i 0 ≤ 10471975510
+  pub arc_most : (i : ℕ) → i < m.line.now.count → get_or m.lengths.now.arcs i 0 ≤ 10471975510
   arc_most i h = at_most (known_arc i h) (ranges.arc i h)

@@ -7,6 +7,7 @@ ghost use Rattle.stationing.specs.Answer.{stations_in};
 ghost use Rattle.stationing.specs.Arrays.{four_from};
 
 use crate::MeasuredLine;
+use crate::lengths::line_lengths;
 use line::Line;
 use refusals::Refusal;
 
@@ -25,12 +26,12 @@ fn store_curve(row: &mut [u64], at: usize, former: u64, straight: u64, spiral: u
     st
 }
 
-impl MeasuredLine {
+impl MeasuredLine<'_> {
     // Refusal 16, or the row.
     #[tactic(auto, unfolding(refusals::specs::Filling::fill, refusals::specs::Filling::with_room), using(stationing::proofs::Accepted::few, stationing::proofs::RowCount::row_count))]
-    fn store(&self, row: &mut [u64]) -> Result<usize, Refusal>
-        ensures answer { fill_reply_of result ≡ (fill unchecked (station_row self.now.line) row.old).reply }
-        ensures memory { row.new ≡ (fill unchecked (station_row self.now.line) row.old).buffer }
+    fn store(self, row: &mut [u64]) -> Result<usize, Refusal>
+        ensures answer { fill_reply_of result ≡ (fill unchecked (station_row self.entry.line.now) row.old).reply }
+        ensures memory { row.new ≡ (fill unchecked (station_row self.entry.line.now) row.old).buffer }
     {
         let n = self.line.count;
         let count = 4 * n + 1;
@@ -63,5 +64,10 @@ pub fn stations(line: Line, row: &mut [u64]) -> Result<usize, Refusal>
     ensures answer { fill_reply_of result ≡ (stations_in line row.old).reply }
     ensures memory { row.new ≡ (stations_in line row.old).buffer }
 {
-    MeasuredLine::new(line)?.store(row)
+    let lengths = line_lengths(line)?;
+    let measured = MeasuredLine {
+        line: &line,
+        lengths: &lengths,
+    };
+    measured.store(row)
 }

@@ -4,7 +4,7 @@ ghost use Rattle.elements.specs.WorkingRule.{scale, unit_x, unit_y};
 
 use crate::SCALE;
 
-// An angle of half a radian or less, as all of spirals are.
+// An angle of half a radian or less, as those of spirals are.
 #[derive(Clone, Copy)]
 pub(crate) struct SpiralAngle {
     pub(crate) value: u64,

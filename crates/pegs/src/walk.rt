@@ -6,7 +6,7 @@ ghost use Rattle.pegs.specs.Pegs.{sided, along_line, station_check, peg_by, valu
 ghost use Rattle.pegs.specs.Steps.{plain_peg, spiral_peg, peg_in_curve};
 
 use crate::Peg;
-use calculator::MeasuredLine;
+use calculator::{MeasuredLine, line_lengths};
 use elements::spiral_point;
 use line::{Curve, Line};
 use refusals::{Refusal, must};
@@ -69,8 +69,8 @@ fn peg_in_curve(number: u16, curve: Curve, arc: u64, inside: u64) -> Result<Peg,
 
 // The peg at a length from the start of a line, or refusal 17 beyond its end.
 #[tactic(auto, using(stationing::proofs::Accepted::few))]
-fn peg_along(measured: &MeasuredLine, along: u64) -> Result<Peg, Refusal>
-    ensures { peg_reply_of result ≡ reply (station_check measured.now.line (pos along)) (peg_by measured.now.line (pos along)) }
+fn peg_along(measured: MeasuredLine, along: u64) -> Result<Peg, Refusal>
+    ensures { peg_reply_of result ≡ reply (station_check measured.entry.line.now (pos along)) (peg_by measured.entry.line.now (pos along)) }
 {
     let n = measured.line.count;
     let mut rest = along;
@@ -96,8 +96,8 @@ fn peg_along(measured: &MeasuredLine, along: u64) -> Result<Peg, Refusal>
 
 // The peg at a station of a line, or refusal 17.
 #[tactic(auto, unfolding(crate::specs::Pegs::station_check, crate::specs::Pegs::along_line, refusals::specs::Replying::reply), using(numbers::proofs::Differences::minus_le, numbers::proofs::Differences::minus_lt))]
-fn peg_from_start(measured: &MeasuredLine, station: u64) -> Result<Peg, Refusal>
-    ensures { peg_reply_of result ≡ reply (station_check measured.now.line (along_line measured.now.line station)) (peg_by measured.now.line (along_line measured.now.line station)) }
+fn peg_from_start(measured: MeasuredLine, station: u64) -> Result<Peg, Refusal>
+    ensures { peg_reply_of result ≡ reply (station_check measured.entry.line.now (along_line measured.entry.line.now station)) (peg_by measured.entry.line.now (along_line measured.entry.line.now station)) }
 {
     let start = 1000 * u64::from(measured.line.start);
     must(start <= station, Refusal::Station)?;
@@ -112,6 +112,10 @@ fn peg_from_start(measured: &MeasuredLine, station: u64) -> Result<Peg, Refusal>
 pub fn peg_at(line: Line, station: u64) -> Result<Peg, Refusal>
     ensures answer { peg_reply_of result ≡ peg_reply line station }
 {
-    let measured = MeasuredLine::new(line)?;
-    peg_from_start(&measured, station)
+    let lengths = line_lengths(line)?;
+    let measured = MeasuredLine {
+        line: &line,
+        lengths: &lengths,
+    };
+    peg_from_start(measured, station)
 }

@@ -4,7 +4,7 @@
 ghost use Rattle.std.specs.Prelude.{◌≡◌};
 ghost use Rattle.totals.specs.Totals.{values_of, totals_by, totals_reply_of, totals_reply};
 
-use calculator::MeasuredLine;
+use calculator::{MeasuredLine, line_lengths};
 use line::Line;
 use refusals::Refusal;
 
@@ -22,8 +22,8 @@ pub struct Totals {
 
 // The totals of a line, curve by curve with the straight before it, then the last straight.
 #[tactic(auto, using(stationing::proofs::Accepted::few))]
-fn add_up(measured: &MeasuredLine) -> Totals
-    ensures { values_of result ≡ totals_by measured.now.line }
+fn add_up(measured: MeasuredLine) -> Totals
+    ensures { values_of result ≡ totals_by measured.entry.line.now }
 {
     let n = measured.line.count;
     let mut straights = 0;
@@ -50,6 +50,9 @@ fn add_up(measured: &MeasuredLine) -> Totals
 pub fn line_totals(line: Line) -> Result<Totals, Refusal>
     ensures answer { totals_reply_of result ≡ totals_reply line }
 {
-    let measured = MeasuredLine::new(line)?;
-    Ok(add_up(&measured))
+    let lengths = line_lengths(line)?;
+    Ok(add_up(MeasuredLine {
+        line: &line,
+        lengths: &lengths,
+    }))
 }

@@ -6,7 +6,7 @@ use Rattle.totals.proofs.add_up.Given as goal
 abbrev pub invariant-loop-i : goal.invariant-loop-i
 invariant-loop-i l =
     record {
-      straights : UpTo is_straight l.measured.line l.i l.straights;
-      spirals : UpTo is_spiral l.measured.line l.i l.spirals;
-      arcs : UpTo is_arc l.measured.line l.i l.arcs;
+      straights : UpTo is_straight l.measured.line.now l.i l.straights;
+      spirals : UpTo is_spiral l.measured.line.now l.i l.spirals;
+      arcs : UpTo is_arc l.measured.line.now l.i l.arcs;
     }

@@ -5,4 +5,4 @@ use Rattle.pegs.proofs.walk.peg_along.Given as goal
 
 abbrev pub invariant-loop-i : goal.invariant-loop-i
 invariant-loop-i l =
-    (l.rest ≤ l.along) × Reached l.measured.line l.along l.i (l.measured.line.count - l.i) (l.along - l.rest)
+    (l.rest ≤ l.along) × Reached l.measured.line.now l.along l.i (l.measured.line.now.count - l.i) (l.along - l.rest)

@@ -9,4 +9,4 @@ use Rattle.stationing.proofs.RowSteps.{numbers_to}
 use Rattle.calculator.proofs.measured.MeasuredLine.store.Given as goal
 
 abbrev pub invariant-loop-i : goal.invariant-loop-i
-invariant-loop-i l = (pos l.station ≡ former_st l.self.line l.i) × (l.row ≡ numbers_to l.self.line l.i ++ drop (4 * l.i) l.initial.row)
+invariant-loop-i l = (pos l.station ≡ former_st l.self.line.now l.i) × (l.row ≡ numbers_to l.self.line.now l.i ++ drop (4 * l.i) l.initial.row)
