@@ -12,7 +12,7 @@ use elements::curve_elements;
 use line::{Line, check_line};
 use refusals::{Refusal, must};
 
-// The tangents and the arcs of a line's curves.
+// The tangents and the arcs of a line's curves, each in an array of its own, since `LineLengths` takes the arcs whole.
 #[derive(Clone, Copy)]
 struct CurveLengths {
     // One entry more than there can be curves: no tangent follows the last distance.

@@ -103,13 +103,13 @@ impl CheckedCurve {
         })
     }
 
-    // Half of the deflection.
-    #[tactic(auto, unfolding(crate::specs::WorkingRule::half_angle))]
+    // Half of the deflection's full angle.
+    #[tactic(auto, unfolding(crate::specs::WorkingRule::full_angle, crate::specs::WorkingRule::half_angle))]
     fn half_angle(self) -> Angle
         ensures { result.value ≡ half_angle self.deflection }
     {
         Angle {
-            value: self.deflection * 3141592654 / 1296000,
+            value: full_angle(self.deflection) / 2,
         }
     }
 

@@ -1,5 +1,4 @@
 -- Laws of the stations that the proofs of `calculator` cite, and single lines by computation.
-pub mod LeastSpiral
 pub mod Fronts
 pub mod CurveSteps
 pub mod StraightSteps
