@@ -50,13 +50,11 @@ fn line_of(numbers: &[u32]) -> Line
     requires all { length numbers.now ≡ number_count (number_at numbers.now 0) }
     ensures { result ≡ line_of numbers.now }
 {
-    let mut line = Line {
-        speed: numbers[1],
-        crossfall: numbers[2],
-        start: numbers[3],
-        count: numbers[0] as usize,
-        ..blank_line()
-    };
+    let mut line = blank_line();
+    line.speed = numbers[1];
+    line.crossfall = numbers[2];
+    line.start = numbers[3];
+    line.count = numbers[0] as usize;
     line.distances[0] = numbers[4];
     for i in 0..line.count {
         line.curves[i] = curve_of(numbers, i);

@@ -127,13 +127,11 @@ impl<'a> Opened<'a> {
         ensures { result ≡ line_of self.now.edition self.now.sheet.now }
     {
         let n = self.head.count;
-        let mut line = Line {
-            speed: self.head.speed,
-            crossfall: self.head.crossfall,
-            start: self.head.start,
-            count: n,
-            ..blank_line()
-        };
+        let mut line = blank_line();
+        line.speed = self.head.speed;
+        line.crossfall = self.head.crossfall;
+        line.start = self.head.start;
+        line.count = n;
         for i in 0..n {
             let at = entry_at(self.edition, i);
             line.distances[i] = bits_at(self.sheet, at, DISTANCE);
