@@ -51,7 +51,7 @@ fn check_grades(profile: &Profile) -> Result<(), Refusal>
 
 // Whether a curve has a length in range, and begins at the end of the one before it or behind.
 fn curve_fits(end: u64, vertex: Vertex) -> bool
-    requires { end ≤ 201000000 }
+    requires { end ≤ 300000000 }
     ensures { result ≡ curve_fits end vertex.station vertex.length }
 {
     let length = vertex.length;
