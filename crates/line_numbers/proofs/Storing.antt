@@ -1,7 +1,6 @@
 -- The numbers of a line, stored five by five. Assumes nothing.
 use mathlib.Core.Path.{◌≡◌, refl, sym, ◌∙◌, ap}
-use mathlib.Core.List.{List, ◌++◌, append_assoc}
-use borrow.Rule.Slice.PartMut.{put_mid}
+use mathlib.Core.List.{List, ◌++◌}
 use Prim.Native.Nat.{ℕ, zero, suc, ◌+◌}
 use native.Mathlib.Numerals.{add-one}
 use native.Mathlib.Omega.{arith}
@@ -25,17 +24,18 @@ unfolding line_numbers
 line_length_lem line = numbers_length line line.count
 
 -- One entry more, at the code's `i + 1`.
-pub entry_stored : (line : Line) (i size : ℕ) (lent now part : List ℕ) → size ≡ 5 → now ≡ numbers_to line i ++ drop (number_count i) lent
+pub entry_stored : (line : Line) (i : ℕ) (lent now part : List ℕ) → now ≡ numbers_to line i ++ drop (number_count i) lent
     → part ≡ entry_numbers line i
-    → put_mid (number_count i) size now part ≡ numbers_to line (i + 1) ++ drop (number_count (i + 1)) lent
+    → take (number_count i) now ++ part ++ drop (number_count i + 5) now ≡ numbers_to line (i + 1) ++ drop (number_count (i + 1)) lent
 unfolding numbers_to
-entry_stored line i size lent now part five e q =
+entry_stored line i lent now part e q =
     let k = number_count i in
     let front : take k now ≡ numbers_to line i = ap (take k) e ∙ take_at (numbers_to line i) _ k (numbers_length line i) in
     let behind : drop k now ≡ drop k lent = ap (drop k) e ∙ drop_at (numbers_to line i) _ k (numbers_length line i) in
-    let next : number_count (i + 1) ≡ k + size = omega arith in
-    let rest : drop size (drop k now) ≡ drop (number_count (i + 1)) lent = ap (drop size) behind ∙ drop-drop size k lent ∙ ap (λ (n : ℕ). drop n lent) (sym next) in
-    (λ j. front j ++ (q j ++ rest j)) ∙ sym (append_assoc (numbers_to line i) (entry_numbers line i) (drop (number_count (i + 1)) lent)) ∙ ap (λ (n : ℕ). numbers_to line n ++ drop (number_count (i + 1)) lent) (sym (add-one i))
+    let next : number_count (i + 1) ≡ k + 5 = omega arith in
+    let rest : drop (k + 5) now ≡ drop (number_count (i + 1)) lent =
+    sym (drop-drop 5 k now) ∙ ap (drop 5) behind ∙ drop-drop 5 k lent ∙ ap (λ (n : ℕ). drop n lent) (sym next) in
+    (λ j. front j ++ q j ++ rest j) ∙ ap (λ (n : ℕ). numbers_to line n ++ drop (number_count (i + 1)) lent) (sym (add-one i))
 
 -- Refusal 3 leaves the numbers as they were.
 pub numbers_refused : (line : Line) (lent : List ℕ) {n p : ℕ} → refused n p ≡ outcome (few_check line)

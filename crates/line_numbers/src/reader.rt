@@ -2,7 +2,7 @@
 ghost use Rattle.std.specs.Prelude.{◌≡◌, ◌+◌, ◌*◌, ◌<◌, ◌≤◌, length};
 ghost use Rattle.refusals.specs.Outcomes.{outcome_of};
 ghost use Rattle.refusals.specs.Order.{outcome};
-ghost use Rattle.line.specs.Entries.{line_after};
+ghost use Rattle.line.specs.Entries.{blank_line, line_after};
 ghost use Rattle.line_numbers.specs.Numbers.{number_count, number_at, turn_of, curve_of, line_of, count_check};
 
 use line::{Curve, Line, blank_line};
@@ -43,14 +43,14 @@ fn curve_of(numbers: &[u32], entry: usize) -> Curve
     }
 }
 
-// The line of numbers that are those of at most 64 curves, its unused entries zero.
+// A blank line becomes the line of numbers that are those of at most 64 curves.
 #[tactic(auto, using(crate::proofs::Filling::filling))]
-fn line_of(numbers: &[u32]) -> Line
+fn fill_line(line: &mut Line, numbers: &[u32])
+    requires blank { line.old ≡ blank_line }
     requires few { number_at numbers.now 0 ≤ 64 }
     requires all { length numbers.now ≡ number_count (number_at numbers.now 0) }
-    ensures { result ≡ line_of numbers.now }
+    ensures { line.new ≡ line_of numbers.now }
 {
-    let mut line = blank_line();
     line.speed = numbers[1];
     line.crossfall = numbers[2];
     line.start = numbers[3];
@@ -60,7 +60,6 @@ fn line_of(numbers: &[u32]) -> Line
         line.curves[i] = curve_of(numbers, i);
         line.distances[i + 1] = numbers[9 + 5 * i];
     }
-    line
 }
 
 // The line of numbers, its unused entries zero; after refusal 3 a line whose fields are all zero. A curve whose side is neither 0 nor 1 has
@@ -70,8 +69,9 @@ fn line_of(numbers: &[u32]) -> Line
 pub fn read(numbers: &[u32]) -> Line
     ensures { result ≡ line_after (outcome (count_check numbers.now)) (line_of numbers.now) }
 {
-    match check_count(numbers) {
-        Ok(()) => line_of(numbers),
-        Err(_) => blank_line(),
+    let mut line = blank_line();
+    if check_count(numbers).is_ok() {
+        fill_line(&mut line, numbers);
     }
+    line
 }
