@@ -8,7 +8,7 @@ ghost use Rattle.calculator.specs.Lengths.{lengths_of, lengths_by};
 use crate::LineLengths;
 use line::Line;
 
-// A line that passes 3 to 15, and its lengths.
+// A line that passes 3 to 15, and its lengths; both are lent, so that no call takes more stack.
 #[derive(Clone, Copy)]
 pub struct MeasuredLine<'a> {
     pub line: &'a Line,

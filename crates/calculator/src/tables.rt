@@ -33,7 +33,7 @@ impl DesignSpeed {
     // Whether a radius reaches V² / (127 (e + f)) in m (source document 001), with e and f in hundredths and R in mm.
     #[tactic(auto, unfolding(stationing::specs::RoadTables::radius_serves, stationing::specs::RoadTables::friction_at))]
     fn radius_serves(self, crossfall: u32, radius: u32) -> bool
-        requires { (crossfall ≤ 12) × (radius ≤ 5000000) }
+        requires { crossfall ≤ 12 }
         ensures { result ≡ radius_serves self.km_h crossfall radius }
     {
         let v = u64::from(self.km_h);
@@ -43,7 +43,6 @@ impl DesignSpeed {
     // Whether a spiral is none, or has the table's length in m and 0.036 V³ / R in m (source document 002), with L and R in mm.
     #[tactic(auto, unfolding(stationing::specs::RoadTables::spiral_serves, stationing::specs::RoadTables::least_spiral_at))]
     fn spiral_serves(self, radius: u32, spiral: u32) -> bool
-        requires { (radius ≤ 5000000) × (spiral ≤ 500000) }
         ensures { result ≡ spiral_serves self.km_h radius spiral }
     {
         let v = u64::from(self.km_h);
@@ -55,7 +54,7 @@ impl DesignSpeed {
 
     // Refusals 12 and 13 of a curve.
     pub(crate) fn check_least(self, crossfall: u32, curve: Curve, place: u16) -> Result<(), Refusal>
-        requires { (crossfall ≤ 12) × (curve.radius ≤ 5000000) × (curve.spiral ≤ 500000) }
+        requires { crossfall ≤ 12 }
         ensures { outcome_of result ≡ (need (radius_serves self.km_h crossfall curve.radius) 12 place ▹ need (spiral_serves self.km_h curve.radius curve.spiral) 13 place) }
     {
         must(

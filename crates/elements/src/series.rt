@@ -5,7 +5,7 @@ ghost use Rattle.elements.specs.WorkingRule.{scale, term, alternating, sine_of, 
 
 use crate::SCALE;
 
-// An angle of 60° and a second or less.
+// An angle of 60° and a second or less. (A type beside `SpiralAngle`: each bound keeps its own series in 64 bits.)
 #[derive(Clone, Copy)]
 pub(crate) struct Angle {
     pub(crate) value: u64,

@@ -18,7 +18,7 @@ fn check_station(station: u64) -> Result<(), Refusal>
     must(station <= 200000000, Refusal::Start)
 }
 
-// Refusal 6: the start, and the station of each vertex.
+// Refusal 6: the start, and the station of each vertex. (The count's limit, here and twice below, is a fact of `Ranged` once all three pass.)
 fn check_stations(profile: &Profile) -> Result<(), Refusal>
     requires { profile.now.count ≤ 32 }
     ensures { outcome_of result ≡ outcome (in_turn (station_check profile.now) (suc profile.now.count)) }

@@ -2,7 +2,7 @@
 ghost use Rattle.std.specs.Prelude.{◌≡◌, ◌+◌, ◌-◌, ◌*◌, ◌≤◌, pos, nat_abs};
 ghost use Rattle.grades.specs.Heights.{along_grade, height_on};
 
-// The straight grade that goes out of a point of a profile.
+// The straight grade that goes out of a point of a profile. Its methods are asked at a station that no type carries: from the point on, and in range.
 #[derive(Clone, Copy)]
 pub(crate) struct Straight {
     // The station of the point, in mm.

@@ -12,7 +12,7 @@ pub fn check_speed(speed: u64) -> Result<(), Refusal>
     ensures { outcome_of result ≡ outcome (speed_check speed) }
 {
     must(
-        40 <= speed && speed <= 120 && speed % 10 == 0,
+        (40..=120).contains(&speed) && speed % 10 == 0,
         Refusal::Speed,
     )
 }

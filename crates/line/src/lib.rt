@@ -23,7 +23,7 @@ pub struct Curve {
 }
 
 // A line of `count` curves: the first `count` entries of `curves` and the first `count + 1` of
-// `distances` are used, the others mean nothing.
+// `distances` are used, the others mean nothing. Arrays and a count, as document 01 has it: memory is fixed.
 #[derive(Clone, Copy)]
 pub struct Line {
     // The design speed V, in km/h.
@@ -39,14 +39,14 @@ pub struct Line {
     pub curves: [Curve; 64],
 }
 
-// A side as a number: 0 right, 1 left.
+// A side as a number, for sheets and the C interface: 0 right, 1 left.
 pub fn side_bit(left: bool) -> u32
     ensures { result ≡ side_bit left }
 {
     u32::from(left)
 }
 
-// A line without curves, all its fields zero.
+// A line without curves, all its fields zero. (No `Default`: the contracts of readers name this function's line.)
 pub fn blank_line() -> Line
     ensures { result ≡ blank_line }
 {

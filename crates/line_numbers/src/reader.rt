@@ -19,7 +19,8 @@ pub fn check_count(numbers: &[u32]) -> Result<(), Refusal>
     )
 }
 
-// The deflection of a curve; 0, which is out of its range, where the side is neither 0 nor 1.
+// The deflection of a curve; 0, which is out of its range, where the side is neither 0 nor 1: the C interface gives the side as a number, and
+// refusal 9 is that of the line.
 #[tactic(auto, unfolding(crate::specs::Numbers::turn_of))]
 fn turn_of(side: u32, deflection: u32) -> u32
     ensures { result ≡ turn_of side deflection }
@@ -56,6 +57,7 @@ fn fill_line(line: &mut Line, numbers: &[u32])
     line.start = numbers[3];
     line.count = numbers[0] as usize;
     line.distances[0] = numbers[4];
+    // By index: entry i of two arrays comes from five numbers.
     for i in 0..line.count {
         line.curves[i] = curve_of(numbers, i);
         line.distances[i + 1] = numbers[9 + 5 * i];
@@ -63,8 +65,8 @@ fn fill_line(line: &mut Line, numbers: &[u32])
 }
 
 // The line of numbers, its unused entries zero; after refusal 3 a line whose fields are all zero. A curve whose side is neither 0 nor 1 has
-// no deflection, which 9 refuses. Any numbers are taken; their ranges are checked by whoever takes the line. It answers a line in either case,
-// and no `Result`: a caller asks `check_count` first.
+// no deflection, which 9 refuses. Any numbers are taken; their ranges are checked by whoever takes the line. (No
+// `Result`: the contract promises a line of any numbers.)
 #[tactic(auto, using(crate::proofs::LineAndNumbers::few_counted, crate::proofs::LineAndNumbers::all_counted))]
 pub fn read(numbers: &[u32]) -> Line
     ensures { result ≡ line_after (outcome (count_check numbers.now)) (line_of numbers.now) }

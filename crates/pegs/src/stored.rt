@@ -14,12 +14,7 @@ use stationing::ElementKind;
 fn kind_number(kind: ElementKind) -> i64
     ensures { result ≡ pos (kind_number kind) }
 {
-    match kind {
-        ElementKind::Straight => 0,
-        ElementKind::SpiralIn => 1,
-        ElementKind::Arc => 2,
-        ElementKind::SpiralOut => 3,
-    }
+    kind as i64
 }
 
 // A peg's numbers.

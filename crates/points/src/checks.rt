@@ -10,7 +10,7 @@ use crate::legs::ShortLeg;
 use coordinates::Leg;
 use refusals::{Refusal, must};
 
-// The coordinates of points, and radius and spiral of each PI, that pass refusals 3 and 18.
+// The coordinates of points, and radius and spiral of each PI, that pass refusals 3 and 18; flat lists, as the C interface lends them.
 #[derive(Clone, Copy)]
 pub(crate) struct CheckedPoints<'a> {
     pub(crate) points: &'a [i64],
@@ -24,9 +24,10 @@ fn check_counts(points: &[i64], designs: &[u32]) -> Result<(), Refusal>
     ensures { outcome_of result ≡ outcome (count_checks points.now designs.now) }
 {
     let numbers = points.len();
-    must((4..=132).contains(&numbers), Refusal::CurveCount)?;
-    must(numbers % 2 == 0, Refusal::CurveCount)?;
-    must(designs.len() == numbers - 4, Refusal::CurveCount)
+    must(
+        (4..=132).contains(&numbers) && numbers % 2 == 0 && designs.len() == numbers - 4,
+        Refusal::CurveCount,
+    )
 }
 
 // Refusal 18: a coordinate beyond 10,000,000 mm either way.

@@ -66,7 +66,7 @@ pub enum Refusal {
 }
 
 impl Refusal {
-    // The number in document 01's table.
+    // The number in document 01's table. (A `match`: an enum whose variants hold a place has no `as`.)
     pub fn number(self) -> u8
         ensures { result ≡ number_of self }
     {
@@ -140,7 +140,7 @@ pub fn must(holds: bool, refusal: Refusal) -> Result<(), Refusal>
     if holds { Ok(()) } else { Err(refusal) }
 }
 
-// The first refusal of two checks.
+// The first refusal of two checks that were made already.
 pub fn first(a: Result<(), Refusal>, b: Result<(), Refusal>) -> Result<(), Refusal>
     ensures { outcome_of result ≡ (outcome_of a ▹ outcome_of b) }
 {

@@ -10,7 +10,7 @@ use crate::lines::{Lines, fill_lines};
 use crate::numbers::{decimal_length, metres_length, put, put_decimal, put_metres};
 use refusals::Refusal;
 
-// The curve of number i of a row of `count` numbers; the end has 0.
+// The curve of number i of a row of `count` numbers; "the end has curve 0".
 #[tactic(auto, unfolding(crate::specs::Text::point_curve))]
 fn curve_at(count: usize, i: usize) -> u64
     requires { i < count }

@@ -1,5 +1,5 @@
-// Pieces of text and numbers in the caller's bytes, one after the other. (Bytes and index are passed apart: with a struct that borrows the bytes,
-// each step would have to promise that it borrows the same ones.)
+// Pieces of text and numbers in the caller's bytes, one after the other. (No `write!`: a text goes into them whole or not at all. Bytes and index
+// are passed apart: with a struct that borrows the bytes, each step would have to promise that it borrows the same ones.)
 ghost use Rattle.std.specs.Prelude.{◌≡◌, ◌++◌, ◌+◌, ◌≤◌, length};
 ghost use Rattle.report.specs.Numbers.{decimal as Numbers·decimal, metres};
 ghost use Rattle.report.specs.Pieces.{Wrote};

@@ -23,7 +23,7 @@ pub(crate) fn bits_at(sheet: &[u8], from: usize, width: usize) -> u32
     (word_at(sheet, from / 8) >> (32 - from % 8 - width)) % (1 << width)
 }
 
-// The same for a field of more than 25 bits, in two parts.
+// The same for a field of more than 25 bits, in two parts: four bytes do not hold it wherever it begins.
 pub(crate) fn long_bits_at(sheet: &[u8], from: usize, width: usize) -> u32
     requires { (26 ≤ width) × (width ≤ 32) × (from < 65536) × ((from + width - 25) / 8 + 4 ≤ length sheet.now) }
     ensures { result ≡ bits_at sheet.now from width }

@@ -38,7 +38,8 @@ pub(crate) const SIZE: usize = RADIUS + SPIRAL;
 // A distance with its curve.
 const ENTRY: usize = TURN + SIZE;
 
-// The edition of a number. Any number but 1 and 2 has none: it gets edition 1, whose number it is not.
+// The edition of a number. Any number but 1 and 2 has none: it gets edition 1, whose number it is not. (No `Option`: a public call that
+// cannot fail.)
 #[tactic(auto, unfolding(packed_sheet::specs::Layout::numbered))]
 pub fn edition_numbered(number: u32) -> Edition
     ensures { result ≡ numbered number }
@@ -66,7 +67,8 @@ pub fn check_edition(number: u32) -> Result<(), Refusal>
     must(number == edition_numbered(number).number, Refusal::Edition)
 }
 
-// The bit where distance `i` begins; the curve after it follows.
+// The bit where distance `i` begins; the curve after it follows. (Here and below edition and count stay two arguments: reader and writer hold
+// them in types of their own.)
 pub(crate) fn entry_at(edition: Edition, i: usize) -> usize
     requires { (i < 128) × (edition.width ≤ 32) }
     ensures { result ≡ entry_at edition i }

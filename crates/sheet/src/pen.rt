@@ -25,7 +25,8 @@ fn store(bytes: &mut [u8], at: usize, byte: u8)
     bytes[at] = byte;
 }
 
-// The whole bytes of the last `held` bits of `word`, which are the sheet's from byte `at` on, one after the other.
+// The whole bytes of the last `held` bits of `word`, which are the sheet's from byte `at` on, one after the other: `store` is the only store,
+// so that no block of bytes is copied.
 #[tactic(auto, using(crate::proofs::Pens::storing))]
 fn store_bytes(bytes: &mut [u8], at: usize, word: u64, held: usize)
     ghost told: { Told }

@@ -70,6 +70,7 @@ pub fn table_numbers(ratios: &mut [u64]) -> Result<usize, Refusal>
         return Err(Refusal::SmallBuffer);
     }
     let table = entries();
+    // By index: of what `iter_mut` lends nothing is known afterwards.
     for k in 0..TABLE_NUMBERS {
         ratios[k] = u64::from(table[k]);
     }

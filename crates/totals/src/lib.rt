@@ -29,6 +29,7 @@ fn add_up(measured: MeasuredLine) -> Totals
     let mut straights = 0;
     let mut spirals = 0;
     let mut arcs = 0;
+    // No `sum`: that each sum fits would need laws of its own.
     for i in 0..n {
         straights += measured.lengths.straights[i];
         spirals += 2000 * u64::from(measured.line.curves[i].spiral);

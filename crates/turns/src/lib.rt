@@ -25,7 +25,7 @@ impl Legs {
         product_at_most(self.dot, ratios.sine, self.cross, ratios.cosine)
     }
 
-    // The turn between two bounds, by halving: what is reached at a second is reached at each earlier one.
+    // The turn between two bounds, by halving: what is reached at a second is reached at each earlier one. (By hand: std halves slices.)
     fn search(self, from: u32, to: u32) -> u32
         requires { Bracket self.cross self.dot from to }
         ensures { (result ≡ turn_or_wide self.cross (pos self.dot)) × (result ≤ 216001) }
