@@ -12,6 +12,10 @@ pub record Told : Type 0 where
   pub edition : Edition
   pub line : Line
 
+-- Those of a function that is given both.
+abbrev pub told : Edition → Line → Told
+told E line = record { edition = E; line = line }
+
 -- The sheet's bytes.
 abbrev pub sheet : Told → List ℕ
 sheet told = sheet_of told.edition told.line

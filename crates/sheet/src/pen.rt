@@ -1,10 +1,13 @@
-// The fields of a line's sheet put into the caller's bytes, most significant bit first: each byte is stored once, in ascending order. The
-// line and the edition whose sheet it is are ghost values, which the contracts name; no function here reads them. The bytes stand beside the
+// The fields of a line's sheet put into the caller's bytes, most significant bit first: each byte is stored once, in ascending order. Edition
+// and line are those whose sheet it is: the contracts name them, and nothing here reads them. The bytes stand beside the
 // pen: a struct that held the `&mut` would need a clause in each contract that it is still the same.
 ghost use Rattle.std.specs.Prelude.{◌≡◌, ℕ, ◌+◌, ◌*◌, ◌/◌, ◌%◌, ◌^◌, ◌<◌, ◌≤◌, length, get_or};
 ghost use Rattle.bits.specs.Bits.{bits_at};
 ghost use Rattle.packed_sheet.specs.EachStore.{Store, Stores};
-ghost use Rattle.sheet.specs.Pens.{Told, sheet, Begun, Come, Next, Put};
+ghost use Rattle.sheet.specs.Pens.{told, sheet, Begun, Come, Next, Put};
+
+use line::Line;
+use packed_sheet::Edition;
 
 // How far the sheet is written: `at` of its bytes are stored, and the last `held` bits of `pending`, less than a word, wait.
 #[derive(Clone, Copy)]
@@ -16,11 +19,10 @@ pub(crate) struct Pen {
 
 // The sheet's byte `at`, the next: the writer's only store.
 #[tactic(auto, using(packed_sheet::proofs::SoFar::store_made))]
-fn store(bytes: &mut [u8], at: usize, byte: u8)
-    ghost told: { Told }
-    requires begun { Begun told.edition told.line bytes.old at }
-    requires next { (at < length (sheet told)) × (byte ≡ get_or (sheet told) at 0) }
-    ensures { Store told.edition told.line at bytes.old bytes.new }
+fn store(edition: Edition, line: &Line, bytes: &mut [u8], at: usize, byte: u8)
+    requires begun { Begun edition line.now bytes.old at }
+    requires next { (at < length (sheet (told edition line.now))) × (byte ≡ get_or (sheet (told edition line.now)) at 0) }
+    ensures { Store edition line.now at bytes.old bytes.new }
 {
     bytes[at] = byte;
 }
@@ -28,15 +30,14 @@ fn store(bytes: &mut [u8], at: usize, byte: u8)
 // The whole bytes of the last `held` bits of `word`, which are the sheet's from byte `at` on, one after the other: `store` is the only store,
 // so that no block of bytes is copied.
 #[tactic(auto, using(crate::proofs::Pens::storing))]
-fn store_bytes(bytes: &mut [u8], at: usize, word: u64, held: usize)
-    ghost told: { Told }
-    requires begun { Begun told.edition told.line bytes.old at }
-    requires next { (held ≤ 64) × (8 * at + held ≤ 8 * length (sheet told)) × (word % 2 ^ held ≡ bits_at (sheet told) (8 * at) held) }
-    ensures { Stores told.edition told.line at bytes.old (at + held / 8) bytes.new }
+fn store_bytes(edition: Edition, line: &Line, bytes: &mut [u8], at: usize, word: u64, held: usize)
+    requires begun { Begun edition line.now bytes.old at }
+    requires next { (held ≤ 64) × (8 * at + held ≤ 8 * length (sheet (told edition line.now))) × (word % 2 ^ held ≡ bits_at (sheet (told edition line.now)) (8 * at) held) }
+    ensures { Stores edition line.now at bytes.old (at + held / 8) bytes.new }
 {
     for i in 0..held / 8 {
         let byte = ((word >> (held - 8 * (i + 1))) % 256) as u8;
-        store(bytes, at + i, byte);
+        store(edition, line, bytes, at + i, byte);
     }
 }
 
@@ -51,11 +52,17 @@ pub(crate) fn join(before: u64, width: usize, value: u64) -> u64
 }
 
 // The sheet's next `width` bits; a whole word is stored.
-pub(crate) fn put(bytes: &mut [u8], pen: Pen, width: usize, value: u64) -> Pen
-    ghost told: { Told }
-    requires come { Come told bytes.old pen }
-    requires next { Next told pen width value }
-    ensures { Put told bytes.old bytes.new pen result width }
+pub(crate) fn put(
+    edition: Edition,
+    line: &Line,
+    bytes: &mut [u8],
+    pen: Pen,
+    width: usize,
+    value: u64,
+) -> Pen
+    requires come { Come (told edition line.now) bytes.old pen }
+    requires next { Next (told edition line.now) pen width value }
+    ensures { Put (told edition line.now) bytes.old bytes.new pen result width }
 {
     let held = pen.held + width;
     if held < 64 {
@@ -67,7 +74,7 @@ pub(crate) fn put(bytes: &mut [u8], pen: Pen, width: usize, value: u64) -> Pen
     }
     let left = held - 64;
     let word = join(pen.pending, width - left, value >> left);
-    store_bytes(bytes, pen.at, word, 64);
+    store_bytes(edition, line, bytes, pen.at, word, 64);
     Pen {
         at: pen.at + 8,
         pending: value,
@@ -76,17 +83,16 @@ pub(crate) fn put(bytes: &mut [u8], pen: Pen, width: usize, value: u64) -> Pen
 }
 
 // Of the bits that wait, fewer than twice `size`, the first `size` are stored, where there are as many.
-fn store_part(bytes: &mut [u8], pen: Pen, size: usize) -> Pen
-    ghost told: { Told }
-    requires come { Come told bytes.old pen }
+fn store_part(edition: Edition, line: &Line, bytes: &mut [u8], pen: Pen, size: usize) -> Pen
+    requires come { Come (told edition line.now) bytes.old pen }
     requires size_bound { (size ≤ 64) × (size % 8 ≡ 0) × (pen.held < 2 * size) }
-    ensures { Put told bytes.old bytes.new pen result 0 × (result.held < size) }
+    ensures { Put (told edition line.now) bytes.old bytes.new pen result 0 × (result.held < size) }
 {
     if pen.held < size {
         return pen;
     }
     let left = pen.held - size;
-    store_bytes(bytes, pen.at, pen.pending >> left, size);
+    store_bytes(edition, line, bytes, pen.at, pen.pending >> left, size);
     Pen {
         at: pen.at + size / 8,
         pending: pen.pending,
@@ -96,13 +102,12 @@ fn store_part(bytes: &mut [u8], pen: Pen, size: usize) -> Pen
 
 // All bits that wait, whole bytes: four at once, two and one.
 #[tactic(auto, using(packed_sheet::proofs::SoFar::stores_then))]
-pub(crate) fn store_rest(bytes: &mut [u8], pen: Pen)
-    ghost told: { Told }
-    requires come { Come told bytes.old pen }
+pub(crate) fn store_rest(edition: Edition, line: &Line, bytes: &mut [u8], pen: Pen)
+    requires come { Come (told edition line.now) bytes.old pen }
     requires whole_bytes { pen.held % 8 ≡ 0 }
-    ensures { Stores told.edition told.line pen.at bytes.old (pen.at + pen.held / 8) bytes.new }
+    ensures { Stores edition line.now pen.at bytes.old (pen.at + pen.held / 8) bytes.new }
 {
-    let four = store_part(bytes, pen, 32);
-    let two = store_part(bytes, four, 16);
-    store_part(bytes, two, 8);
+    let four = store_part(edition, line, bytes, pen, 32);
+    let two = store_part(edition, line, bytes, four, 16);
+    store_part(edition, line, bytes, two, 8);
 }

@@ -9,7 +9,7 @@ ghost use Rattle.packed_sheet.specs.Layout.{numbered, head_widths, curve_widths,
 ghost use Rattle.packed_sheet.specs.Writing.{head_values, curve_values, write_checks, sheet_in};
 ghost use Rattle.packed_sheet.specs.EachStore.{Stores, StoreOf};
 ghost use Rattle.sheet.specs.Handled.{Handled};
-ghost use Rattle.sheet.specs.Pens.{Told, position, Come};
+ghost use Rattle.sheet.specs.Pens.{told, position, Come};
 
 use crate::layout::{
     COUNT, CROSSFALL, DEFLECTION, DISTANCE, SIDE, SIZE, SPEED, SPIRAL, START_AT, TURN, bit_count,
@@ -64,38 +64,38 @@ fn size_bits(curve: Curve) -> u64
 // The last distance, behind head and entries, with the zero bits that fill the last byte.
 #[tactic(auto, using(packed_sheet::proofs::SoFar::stores_then))]
 fn put_end(passed: &Passed, bytes: &mut [u8], pen: Pen)
-    ghost told: { Told }
-    requires same { told ≡ record { edition = passed.now.edition; line = passed.now.line.now } }
-    requires come { Come told bytes.old pen × (position pen ≡ entry_at told.edition told.line.count) }
-    ensures { Stores told.edition told.line pen.at bytes.old (byte_count told.edition told.line.count) bytes.new }
+    requires come { Come (told passed.now.edition passed.now.line.now) bytes.old pen × (position pen ≡ entry_at passed.now.edition passed.now.line.now.count) }
+    ensures { Stores passed.now.edition passed.now.line.now pen.at bytes.old (byte_count passed.now.edition passed.now.line.now.count) bytes.new }
 {
-    let n = passed.line.count;
-    let fill = 8 * byte_count(passed.edition, n) - bit_count(passed.edition, n);
-    let end = join(u64::from(passed.line.distances[n]), fill, 0);
-    let last = put(bytes, pen, DISTANCE + fill, end);
-    store_rest(bytes, last);
+    let edition = passed.edition;
+    let line = passed.line;
+    let n = line.count;
+    let fill = 8 * byte_count(edition, n) - bit_count(edition, n);
+    let end = join(u64::from(line.distances[n]), fill, 0);
+    let last = put(edition, line, bytes, pen, DISTANCE + fill, end);
+    store_rest(edition, line, bytes, last);
 }
 
 // The sheet of a line that passes, at the front of bytes that are enough: head, distances and curves, the last distance and the fill.
 #[tactic(auto, using(packed_sheet::proofs::SoFar::stores_then))]
 fn write_sheet(passed: &Passed, bytes: &mut [u8])
-    ghost told: { Told }
-    requires same { told ≡ record { edition = passed.now.edition; line = passed.now.line.now } }
-    requires room { byte_count told.edition told.line.count ≤ length bytes.old }
-    ensures stores { Stores told.edition told.line 0 bytes.old (byte_count told.edition told.line.count) bytes.new }
-    ensures each { (k : ℕ) → k < byte_count told.edition told.line.count
-        → StoreOf told.edition told.line bytes.old (byte_count told.edition told.line.count) bytes.new k }
+    requires room { byte_count passed.now.edition passed.now.line.now.count ≤ length bytes.old }
+    ensures stores { Stores passed.now.edition passed.now.line.now 0 bytes.old (byte_count passed.now.edition passed.now.line.now.count) bytes.new }
+    ensures each { (k : ℕ) → k < byte_count passed.now.edition passed.now.line.now.count
+        → StoreOf passed.now.edition passed.now.line.now bytes.old (byte_count passed.now.edition passed.now.line.now.count) bytes.new k }
 {
+    let edition = passed.edition;
     let line = passed.line;
     let mut pen = Pen {
         at: 0,
         pending: head_bits(passed),
-        held: START_AT + passed.edition.width,
+        held: START_AT + edition.width,
     };
     for i in 0..line.count {
         let curve = line.curves[i];
-        let turned = put(bytes, pen, TURN, turn_bits(line.distances[i], curve));
-        pen = put(bytes, turned, SIZE, size_bits(curve));
+        let turn = turn_bits(line.distances[i], curve);
+        let turned = put(edition, line, bytes, pen, TURN, turn);
+        pen = put(edition, line, bytes, turned, SIZE, size_bits(curve));
     }
     put_end(passed, bytes, pen);
 }

@@ -4,4 +4,4 @@ use Rattle.packed_sheet.specs.EachStore.{none}
 use Rattle.sheet.proofs.pen.store_bytes.Goals as goal
 
 pub loop-i-init : goal.loop-i-init
-loop-i-init g c = record { begun = rw add-zero c.requires.0; stores = rw add-zero none }
+loop-i-init c = record { begun = rw add-zero c.requires.begun; stores = rw add-zero none }
