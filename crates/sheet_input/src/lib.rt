@@ -32,6 +32,7 @@ impl Input {
 // Reads until `bytes` is full or the input ends, and answers how many bytes it put at the start of `bytes`, or why a read failed. (A loop by
 // hand: `read_to_end` would take memory for a longer input, and `read_exact` fails on a shorter one.)
 fn read_bytes(input: &mut impl Read, bytes: &mut [u8]) -> io::Result<usize>
+    requires { length bytes.old ≤ 707 }
     ensures { ReadsAtMost result bytes.new }
 {
     let mut size = 0;
@@ -48,7 +49,7 @@ fn read_bytes(input: &mut impl Read, bytes: &mut [u8]) -> io::Result<usize>
 // "It reads a sheet of at most 707 bytes from standard input (further bytes are not read)", in whatever pieces they come; or why a read
 // failed.
 pub fn read_sheet(input: &mut impl Read) -> io::Result<Input>
-    ensures { IfOk result (λ input. input.size ≤ 707) }
+    ensures most { IfOk result (λ input. input.size ≤ 707) }
 {
     let mut bytes = [0u8; ROOM];
     let size = read_bytes(input, &mut bytes)?;
