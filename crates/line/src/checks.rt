@@ -5,7 +5,7 @@ ghost use Rattle.refusals.specs.Order.{outcome};
 ghost use Rattle.line.specs.Checks.{speed_check, start_check, head_checks, distance_check, curve_checks, body_checks, field_checks, line_checks};
 
 use crate::{Curve, Line};
-use refusals::{Refusal, must};
+use refusals::{Refusal, first, must};
 
 // Refusal 4: a design speed, in km/h.
 pub fn check_speed(speed: u64) -> Result<(), Refusal>
@@ -69,8 +69,8 @@ pub fn check_curve(deflection: u32, radius: u32, spiral: u32, place: u16) -> Res
 fn check_entry(curve: Curve, distance: u32, place: u16) -> Result<(), Refusal>
     ensures { outcome_of result ≡ (outcome (curve_checks curve.deflection curve.radius curve.spiral place) ▹ outcome (distance_check distance place)) }
 {
-    check_curve(curve.deflection, curve.radius, curve.spiral, place)?;
-    check_distance(distance, place)
+    let fields = check_curve(curve.deflection, curve.radius, curve.spiral, place);
+    first(fields, check_distance(distance, place))
 }
 
 // The first of refusals 8 to 11, in sheet order: distance 0, curve 1, distance 1, ..
