@@ -100,29 +100,45 @@ fn write_sheet(passed: &Passed, bytes: &mut [u8])
     put_end(passed, bytes, pen);
 }
 
-// Refusal 2, then the first of the line's fields in the edition of the number.
-#[tactic(auto, using(crate::proofs::Handled::numbered_handled, line::proofs::InRange::line_in_range), unfolding(packed_sheet::specs::Writing::write_checks))]
-fn check_told(number: u32, line: &Line) -> Result<Passed<'_>, Refusal>
-    ensures answer { outcome_of result ≡ outcome (write_checks number line.now) }
-    ensures same { IfOk result (λ p. (p.edition ≡ numbered number) × (p.line.now ≡ line.now)) }
+// Refusal 2, then the first of the line's fields in the edition of the number; the edition of a line that passes.
+#[tactic(auto, using(line::proofs::InRange::line_in_range), unfolding(packed_sheet::specs::Writing::write_checks))]
+fn check_told(number: u32, line: Line) -> Result<Edition, Refusal>
+    ensures answer { outcome_of result ≡ outcome (write_checks number line) }
+    ensures told { IfOk result (λ edition. edition ≡ numbered number) }
+    ensures in_range { IfOk result (λ edition. FieldsInRange edition.greatest line) }
 {
     check_edition(number)?;
     let edition = edition_numbered(number);
-    check_fields(edition.greatest, *line)?;
-    Ok(Passed { edition, line })
+    check_fields(edition.greatest, line)?;
+    Ok(edition)
+}
+
+// The same of a line by value, which is lent from here on. (In `write` to lend it would cost a copy before the checks.)
+fn write_line(edition: Edition, line: Line, bytes: &mut [u8])
+    requires handled { Handled edition }
+    requires in_range { FieldsInRange edition.greatest line }
+    requires room { byte_count edition line.count ≤ length bytes.old }
+    ensures stores { Stores edition line 0 bytes.old (byte_count edition line.count) bytes.new }
+    ensures each { (k : ℕ) → k < byte_count edition line.count → StoreOf edition line bytes.old (byte_count edition line.count) bytes.new k }
+{
+    let passed = Passed {
+        edition,
+        line: &line,
+    };
+    write_sheet(&passed, bytes);
 }
 
 // The sheet of a line in the edition of a number, at the front of `bytes`. Answers its length in bytes, or the first refusal: 2 where the
 // edition is neither 1 nor 2, then in document 01's order 3 to 6, where 6 follows the edition, 8 to 11 in sheet order, then 16; a refusal
 // leaves `bytes` as they were. Any number, any line and any bytes are taken; unused entries are ignored.
-#[tactic(auto, using(crate::proofs::WaysOut::writing))]
+#[tactic(auto, using(crate::proofs::WaysOut::writing, crate::proofs::Handled::numbered_handled))]
 pub fn write(edition: u32, line: Line, bytes: &mut [u8]) -> Result<usize, Refusal>
     ensures answer { fill_reply_of result ≡ (sheet_in edition line bytes.old).reply }
     ensures memory { bytes.new ≡ (sheet_in edition line bytes.old).buffer }
 {
-    let passed = check_told(edition, &line)?;
-    let size = byte_count(passed.edition, line.count);
+    let told = check_told(edition, line)?;
+    let size = byte_count(told, line.count);
     must(size <= bytes.len(), Refusal::SmallBuffer)?;
-    write_sheet(&passed, bytes);
+    write_line(told, line, bytes);
     Ok(size)
 }
