@@ -45,7 +45,7 @@ sq_pos n zero h = absurd (omega arith)
 sq_pos n (suc g) h = omega arith
 
 -- the quotient by it is smaller, and so is one step from it.
-quotient_below : (n g : ℕ) → n < g * g → n / g < g
+pub quotient_below : (n g : ℕ) → n < g * g → n / g < g
 quotient_below n g h = (div-lt_iff_lt-mul {k = g} {x = n} {y = g} (sq_pos n g h)).1 h
 
 pub newton_below : (n g : ℕ) → n < g * g → (g + n / g) / 2 < g

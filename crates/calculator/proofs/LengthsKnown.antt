@@ -24,22 +24,30 @@ whole_lengths line l few s a =
       arcs = front_entries (arc_at line) 64 line.count l.arcs few a j;
     }
 
+-- What a caller learns from lengths that are the rule's.
+module _ (line : Line) (l : LineLengths) (few : line.count ≤ 64) (known : lengths_of l ≡ lengths_by line) where
+  pub known_straight : (i : ℕ) → i ≤ line.count → pos (get_or l.straights i 0) ≡ straight_at line i
+  unfolding lengths_by
+  known_straight i h =
+      entry_known (straight_at line) 65 (suc line.count) l.straights (omega arith) (ap (λ (v : Lengths). v.straights) known) i (omega arith)
+
+  pub known_arc : (i : ℕ) → i < line.count → pos (get_or l.arcs i 0) ≡ arc_at line i
+  unfolding lengths_by
+  known_arc i h = entry_known (arc_at line) 64 line.count l.arcs few (ap (λ (v : Lengths). v.arcs) known) i h
+
 -- A measured line passes 3 to 15, and each of its lengths is the rule's and in range.
 module _ (m : MeasuredLine) where
   pub ranges : Accepted m.line.now
   ranges = accepted m.line.now m.checked
 
-  pub known_straight : (i : ℕ) → i ≤ m.line.now.count → pos (get_or m.lengths.now.straights i 0) ≡ straight_at m.line.now i
-  unfolding lengths_by
-  known_straight i h =
-      entry_known (straight_at m.line.now) 65 (suc m.line.now.count) m.lengths.now.straights (omega (arith, ranges.in_range.few)) (ap (λ (v : Lengths). v.straights) m.known) i (omega arith)
+  pub measured_straight : (i : ℕ) → i ≤ m.line.now.count → pos (get_or m.lengths.now.straights i 0) ≡ straight_at m.line.now i
+  measured_straight = known_straight m.line.now m.lengths.now ranges.in_range.few m.known
 
   pub straight_most : (i : ℕ) → i ≤ m.line.now.count → get_or m.lengths.now.straights i 0 ≤ 20000000000
-  straight_most i h = at_most (known_straight i h) (ranges.straight i h)
+  straight_most i h = at_most (measured_straight i h) (ranges.straight i h)
 
-  pub known_arc : (i : ℕ) → i < m.line.now.count → pos (get_or m.lengths.now.arcs i 0) ≡ arc_at m.line.now i
-  unfolding lengths_by
-  known_arc i h = entry_known (arc_at m.line.now) 64 m.line.now.count m.lengths.now.arcs ranges.in_range.few (ap (λ (v : Lengths). v.arcs) m.known) i h
+  pub measured_arc : (i : ℕ) → i < m.line.now.count → pos (get_or m.lengths.now.arcs i 0) ≡ arc_at m.line.now i
+  measured_arc = known_arc m.line.now m.lengths.now ranges.in_range.few m.known
 
   pub arc_most : (i : ℕ) → i < m.line.now.count → get_or m.lengths.now.arcs i 0 ≤ 10471975510
-  arc_most i h = at_most (known_arc i h) (ranges.arc i h)
+  arc_most i h = at_most (measured_arc i h) (ranges.arc i h)

@@ -50,7 +50,7 @@ module _ (points : List ℤ) (curves : List ℕ) where
   either true false h = refl
   either false b h = refl
 
-  counts_refused : (Counted points curves → ⊥) → refused 3 0 ≡ outcome (count_checks points curves)
+  pub counts_refused : (Counted points curves → ⊥) → refused 3 0 ≡ outcome (count_checks points curves)
   unfolding count_checks
   counts_refused h = either Paired Ranged (λ p r. h (counts_pass (join (ap (λ (t : Bool). need t 3 0) p) (ap (λ (t : Bool). need t 3 0) r))))
 
@@ -59,7 +59,7 @@ module _ (points : List ℤ) (curves : List ℕ) where
   both true false p q = q
   both false b p q = p
 
-  counts_hold : Counted points curves → passed ≡ outcome (count_checks points curves)
+  pub counts_hold : Counted points curves → passed ≡ outcome (count_checks points curves)
   unfolding count_checks
   counts_hold h =
       let paired = both _ _ (eq-eqb (length points % 2) 0 (omega (arith, h.numbers))) (eq-eqb (length curves) (2 * curve_count points) h.designs) in

@@ -1,5 +1,5 @@
 -- The sizes of products and lengths of legs, which keep them in 64 bits. Assumes nothing.
-use mathlib.Core.Path.{◌≡◌}
+use mathlib.Core.Path.{◌≡◌, refl}
 use Prim.Native.Nat.{ℕ, ◌+◌, ◌*◌, ◌≤◌, ◌<◌}
 use native.Mathlib.Nat.{mul-le-mul}
 use native.Mathlib.Decide.{dec_lt}
@@ -19,10 +19,12 @@ step_held x y f g =
     rw (held x (omega arith), held y (omega arith)) (held (x -ℤ y) (omega (arith, size_difference x y)))
 
 -- A product of two sides of legs, as the code takes it.
-product_held : (x y : ℤ) → nat_abs x ≤ 20000000 → nat_abs y ≤ 20000000
-    → to_z w64 (of_z w64 (to_z w64 (of_z w64 x) *ℤ to_z w64 (of_z w64 y))) ≡ x *ℤ y
-product_held x y f g =
-    rw (held x (omega arith), held y (omega arith)) (held (x *ℤ y) (omega (arith, product_most x y f g)))
+pub product_held : (x y : ℤ) → nat_abs x ≤ 20000000 → nat_abs y ≤ 20000000 → {r : ℤ} → r ≡ to_z w64 (of_z w64 x) *ℤ to_z w64 (of_z w64 y)
+    → (to_z w64 (of_z w64 r) ≡ x *ℤ y) × (nat_abs (to_z w64 (of_z w64 r)) ≤ 400000000000000)
+product_held x y f g {r} e =
+    let is : r ≡ x *ℤ y = rw (held x (omega arith), held y (omega arith)) at e in
+    let whole : to_z w64 (of_z w64 r) ≡ x *ℤ y = rw is (held (x *ℤ y) (omega (arith, product_most x y f g))) in
+    (whole, rw whole (product_most x y f g))
 
 -- The sum or the difference of two such products.
 module _ (op : ℤ → ℤ → ℤ) (sized : (x y : ℤ) → nat_abs (op x y) ≤ nat_abs x + nat_abs y) (a b c d : ℤ)
@@ -34,7 +36,7 @@ module _ (op : ℤ → ℤ → ℤ) (sized : (x y : ℤ) → nat_abs (op x y) �
       (to_z w64 (of_z w64 (to_z w64 (of_z w64 c) *ℤ to_z w64 (of_z w64 d))))
 
   joined : in_code ≡ op (a *ℤ b) (c *ℤ d)
-  joined = λ j. op (product_held a b f g j) (product_held c d h k j)
+  joined = λ j. op ((product_held a b f g refl).0 j) ((product_held c d h k refl).0 j)
 
   most : nat_abs (op (a *ℤ b) (c *ℤ d)) ≤ 800000000000000
   most = omega (arith, sized (a *ℤ b) (c *ℤ d), product_most a b f g, product_most c d h k)

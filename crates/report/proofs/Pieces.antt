@@ -32,7 +32,7 @@ pub wrote_as : {b₀ b₁ x y : List ℕ} {p q : ℕ} → Wrote b₀ b₁ p q x 
 wrote_as {b₀} {b₁} {x} {y} {p} {q} w e = subst (Wrote b₀ b₁ p q) e w
 
 -- Three words, each with what stands behind it.
-words_of : (a b c : List ℕ) → a ++ ascii " " ++ (b ++ ascii " ") ++ (c ++ ascii "\n") ≡ words a b c
+pub words_of : (a b c : List ℕ) → a ++ ascii " " ++ (b ++ ascii " ") ++ (c ++ ascii "\n") ≡ words a b c
 unfolding words
 words_of a b c =
     let first = a ++ ascii " " in

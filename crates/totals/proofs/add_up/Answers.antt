@@ -6,7 +6,7 @@ use lib.IntN.{pos, ◌+ℤ◌}
 use lib.ListN.{get_or}
 use Rattle.numbers.proofs.Ranges.{at_most}
 use Rattle.stationing.specs.LineElements.{elements_of}
-use Rattle.calculator.proofs.LengthsKnown.{ranges, known_straight, known_arc}
+use Rattle.calculator.proofs.LengthsKnown.{ranges, measured_straight, measured_arc}
 use Rattle.totals.specs.Totals.{is_straight, is_spiral, is_arc, total_of, totals_of, totals_by}
 use Rattle.totals.proofs.AddingUp.{UpTo, none_yet, straight_added, spirals_added, arc_added, straights_whole, spirals_whole, arcs_whole}
 use Rattle.totals.proofs.InRange.{total_between, so_far_most}
@@ -21,7 +21,7 @@ loop-i-init c = record { straights = none_yet _ is_straight; spirals = none_yet 
 straight_next : (c : In-loop-i) → UpTo is_straight c.args.measured.line.now (c.loop-i.i + 1) (c.loop-i.straights + get_or c.args.measured.lengths.now.straights c.loop-i.i 0)
 straight_next c =
     let m = c.args.measured in
-    straight_added m.line.now c.loop-i-test.true (known_straight m c.loop-i.i (omega arith)) c.loop-i.invariant.straights
+    straight_added m.line.now c.loop-i-test.true (measured_straight m c.loop-i.i (omega arith)) c.loop-i.invariant.straights
 
 spirals_next : (c : After-from) → UpTo is_spiral c.args.measured.line.now (c.loop-i.i + 1) (c.loop-i.spirals + 2000 * c.from.result)
 spirals_next c =
@@ -31,7 +31,7 @@ spirals_next c =
 arc_next : (c : In-loop-i) → UpTo is_arc c.args.measured.line.now (c.loop-i.i + 1) (c.loop-i.arcs + get_or c.args.measured.lengths.now.arcs c.loop-i.i 0)
 arc_next c =
     let m = c.args.measured in
-    arc_added m.line.now c.loop-i-test.true (known_arc m c.loop-i.i c.loop-i-test.true) c.loop-i.invariant.arcs
+    arc_added m.line.now c.loop-i-test.true (measured_arc m c.loop-i.i c.loop-i-test.true) c.loop-i.invariant.arcs
 
 pub overflow_add-straights : goal.overflow_add-straights
 overflow_add-straights c =
@@ -61,7 +61,7 @@ loop-i-preserved c =
 straights_all : (c : After-loop-i) → pos (c.loop-i.straights + get_or c.args.measured.lengths.now.straights c.args.measured.line.now.count 0) ≡ total_of is_straight (elements_of c.args.measured.line.now)
 straights_all c =
     let m = c.args.measured in
-    straights_whole m.line.now (omega arith) (known_straight m m.line.now.count (omega arith)) c.loop-i.invariant.straights
+    straights_whole m.line.now (omega arith) (measured_straight m m.line.now.count (omega arith)) c.loop-i.invariant.straights
 
 straights_most : (c : After-loop-i) → c.loop-i.straights + get_or c.args.measured.lengths.now.straights c.args.measured.line.now.count 0 ≤ 2034206432640
 straights_most c =

@@ -4,7 +4,7 @@ use Prim.Native.Nat.{ℕ, suc, ◌+◌, ◌-◌, ◌*◌}
 use native.Mathlib.Omega.{arith}
 use lib.ListN.{get_or}
 use Rattle.refusals.specs.Replying.{answered}
-use Rattle.calculator.proofs.LengthsKnown.{ranges, known_straight, known_arc, arc_most}
+use Rattle.calculator.proofs.LengthsKnown.{ranges, measured_straight, measured_arc, arc_most}
 use Rattle.pegs.proofs.Walking.{Reached, from_start, at_straight, at_curve, at_next, at_last, at_beyond}
 use Rattle.pegs.proofs.walk.peg_along.Goals as goal
 use Rattle.pegs.proofs.walk.peg_along.Goals.{After-from, After-loop-i}
@@ -22,7 +22,7 @@ returns-then-rest-straight c =
     let m = c.args.measured in
     let loop = c.loop-i in
     ap answered c.plain_peg.ensures
-    ∙ at_straight m.line.now (ranges m) c.args.along loop.rest loop.invariant.0 loop.i _ (known_straight m loop.i (omega arith)) _ loop.invariant.1 c.if-rest-straight.true
+    ∙ at_straight m.line.now (ranges m) c.args.along loop.rest loop.invariant.0 loop.i _ (measured_straight m loop.i (omega arith)) _ loop.invariant.1 c.if-rest-straight.true
 
 pub overflow_mul-whole : goal.overflow_mul-whole
 overflow_mul-whole c = omega (arith, ((ranges c.args.measured).in_range.curve c.loop-i.i c.loop-i-test.true).L-most)
@@ -49,7 +49,7 @@ returns-then-inside-whole c =
     let i = c.loop-i.i in
     let left = here (goal.at.returns-then-inside-whole c).After-from in
     c.peg_in_curve.ensures
-    ∙ at_curve m.line.now (ranges m) c.args.along c.loop-i.rest c.loop-i.invariant.0 i _ (known_straight m i (omega arith)) _ _ (known_arc m i c.loop-i-test.true) left (omega arith) (omega (arith, c.from.ensures))
+    ∙ at_curve m.line.now (ranges m) c.args.along c.loop-i.rest c.loop-i.invariant.0 i _ (measured_straight m i (omega arith)) _ _ (measured_arc m i c.loop-i-test.true) left (omega arith) (omega (arith, c.from.ensures))
 
 pub loop-i-preserved : goal.loop-i-preserved
 loop-i-preserved c =
@@ -58,7 +58,7 @@ loop-i-preserved c =
     let along = c.args.along in
     let rest = c.loop-i.rest in
     let left = here (goal.at.loop-i-preserved c).After-from in
-    let next = at_next m.line.now (ranges m) along rest c.loop-i.invariant.0 i _ (known_straight m i (omega arith)) _ _ (known_arc m i c.loop-i-test.true) left (omega arith) (omega (arith, c.from.ensures)) in
+    let next = at_next m.line.now (ranges m) along rest c.loop-i.invariant.0 i _ (measured_straight m i (omega arith)) _ _ (measured_arc m i c.loop-i-test.true) left (omega arith) (omega (arith, c.from.ensures)) in
     (omega arith, subst (λ (L : ℕ). Reached m.line.now along (i + 1) (m.line.now.count - (i + 1)) (along - (rest - get_or m.lengths.now.straights i 0 - (2000 * L + get_or m.lengths.now.arcs i 0)))) (sym c.from.ensures) next)
 
 -- The last straight alone is left.
@@ -71,12 +71,12 @@ last c =
 pub returns-then-measured-n : goal.returns-then-measured-n
 returns-then-measured-n c =
     let m = c.args.measured in
-    let straight = known_straight m m.line.now.count (omega arith) in
+    let straight = measured_straight m m.line.now.count (omega arith) in
     at_beyond m.line.now (ranges m) c.args.along c.loop-i.rest c.loop-i.invariant.0 _ straight (last (goal.at.returns-then-measured-n c).After-loop-i) c.if-measured-n.true
 
 pub returns : goal.returns
 returns c =
     let m = c.args.measured in
-    let straight = known_straight m m.line.now.count (omega arith) in
+    let straight = measured_straight m m.line.now.count (omega arith) in
     ap answered c.plain_peg-2.ensures
     ∙ at_last m.line.now (ranges m) c.args.along c.loop-i.rest c.loop-i.invariant.0 _ straight (last (goal.at.returns c).After-loop-i) c.if-measured-n.false

@@ -12,7 +12,7 @@ use Rattle.stationing.specs.Stations.{spiral_at, former_st, curve_stations, stat
 use Rattle.stationing.proofs.RowCount.{row_count}
 use Rattle.stationing.proofs.FormerST.{former_between}
 use Rattle.stationing.proofs.RowSteps.{numbers_to, next_st, curve_stored, end_stored}
-use Rattle.calculator.proofs.LengthsKnown.{ranges, known_straight, straight_most, known_arc, arc_most}
+use Rattle.calculator.proofs.LengthsKnown.{ranges, measured_straight, straight_most, measured_arc, arc_most}
 use Rattle.calculator.proofs.measured.MeasuredLine.store.Goals as goal
 
 pub overflow_mul-station : goal.overflow_mul-station
@@ -38,9 +38,9 @@ loop-i-preserved c =
     let m = c.args.self in
     let loop = c.loop-i in
     let stored = c.store_curve-station.ensures in
-    let straight = known_straight m loop.i (omega arith) in
+    let straight = measured_straight m loop.i (omega arith) in
     let spiral = ap (λ (L : ℕ). pos (1000 * L)) c.from-spiral.ensures in
-    let arc = known_arc m loop.i c.loop-i-test.true in (
+    let arc = measured_arc m loop.i c.loop-i-test.true in (
       next_st m.line.now loop.i loop.invariant.0 straight spiral arc stored.value,
       curve_stored m.line.now loop.i loop.invariant.0 straight spiral arc c.args.row.now loop.row _ (omega arith) loop.invariant.1 stored.row_after,
     )
@@ -61,5 +61,5 @@ returns c =
     let all : loop.i ≡ line.count = omega arith in
     let front = loop.invariant.1 ∙ ap (λ (i : ℕ). numbers_to line i ++ drop (4 * i) lent) all in
     let whole = whole_fill unchecked (station_row line) lent refl (row_count line) c.if-row-count.false
-    (end_stored line (loop.invariant.0 ∙ ap (former_st line) all) (known_straight m line.count (omega arith)) lent loop.row c.if-row-count.false front) in
+    (end_stored line (loop.invariant.0 ∙ ap (former_st line) all) (measured_straight m line.count (omega arith)) lent loop.row c.if-row-count.false front) in
     record { answer = whole.0; memory = whole.1 }
