@@ -6,8 +6,7 @@ ghost use Rattle.sight.specs.Formulas.{stopping_distance};
 // The stopping distance at level grade, in m, at 40, 50, .. 120 km/h.
 const STOPPING: [u64; 9] = [45, 64, 85, 111, 140, 173, 211, 267, 310];
 
-// That at a design speed, from the table.
-// That of a design speed. (The calculator's `DesignSpeed` is no type of this crate: a profile has no calculator below it.)
+// That at a design speed, from the table. (The calculator's `DesignSpeed` is no type of this crate: a profile has no calculator below it.)
 pub(crate) fn stopping_distance(speed: u64) -> u64
     requires least { 40 ≤ speed }
     requires most { speed ≤ 120 }
