@@ -113,7 +113,8 @@ fn check_told(number: u32, line: Line) -> Result<Edition, Refusal>
     Ok(edition)
 }
 
-// The same of a line by value, which is lent from here on. (In `write` to lend it would cost a copy before the checks.)
+// The sheet of such a line, at the front of bytes that are enough. (The line comes by value and is lent from here on: lent in `write`, it would be
+// copied before the checks.)
 fn write_line(edition: Edition, line: Line, bytes: &mut [u8])
     requires handled { Handled edition }
     requires in_range { FieldsInRange edition.greatest line }
